@@ -1,0 +1,2 @@
+-- Lead   the fields of a collection before its texts
+pub mod Lead

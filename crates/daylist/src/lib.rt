@@ -1,0 +1,1 @@
+// The day list. The definitions are in specs/; there is no code yet.

@@ -1,0 +1,4 @@
+-- Bytes   byte strings and what is asked of them        Put   one list put into another        Lists   sums, counts, what is kept and put together
+pub mod Bytes
+pub mod Put
+pub mod Lists

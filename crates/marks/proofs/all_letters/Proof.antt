@@ -1,0 +1,60 @@
+-- `marks::all_letters` meets its contract. The invariant: every byte of the text is of the class where every byte from i on is.
+use Prim.Native.Nat.{_-_}
+use mathlib.Core.Path.{_≡_, refl, sym, _∙_}
+use lib.ListN.{length, drop}
+use borrow.Author.Needs.{needs}
+use borrow.Author.Tests.{not-true, not-false}
+use Rattle.laws.specs.Bytes.{all}
+use Rattle.laws.proofs.Loops.{all-stop, all-go, all-end}
+use Rattle.marks.specs.Marks.{letter}
+use Rattle.marks.proofs.all_letters.Statement.{statement}
+use Rattle.marks.proofs.all_letters.Tie as tie
+
+abbrev Inv-loop : tie.InvT-loop
+Inv-loop text i₀ i = all letter text ≡ all letter (drop i text)
+
+abbrev μ-loop : tie.MeasureT-loop
+μ-loop text i₀ i = length text - i
+
+loop-holds : tie.Need-loop-holds Inv-loop μ-loop
+loop-holds c = refl
+
+shared-slice-read-is-letter : tie.Need-shared-slice-read-is-letter Inv-loop μ-loop
+shared-slice-read-is-letter c = search needs
+
+is-letter-requires : tie.Need-is-letter-requires Inv-loop μ-loop
+is-letter-requires c κs = search needs
+
+returns : tie.Need-returns Inv-loop μ-loop
+returns c =
+    let l = c .before .before .before .before .loop in
+    sym (l .inv ∙ all-stop letter _ (l .i) (c .before .before .before .loop-test .taken) (sym (c .before .is-letter .ensures) ∙ not-true _ (c .if1 .taken)))
+
+add-i : tie.Need-add-i Inv-loop μ-loop
+add-i c = search needs
+
+loop-less : tie.Need-loop-less Inv-loop μ-loop
+loop-less c = search needs
+
+loop-again : tie.Need-loop-again Inv-loop μ-loop
+loop-again c =
+    let l = c .before .before .before .before .loop in
+    l .inv ∙ all-go letter _ (l .i) (c .before .before .before .loop-test .taken) (sym (c .before .is-letter .ensures) ∙ not-false _ (c .if1 .left))
+
+returns-2 : tie.Need-returns-2 Inv-loop μ-loop
+returns-2 c = sym (c .before .loop .inv ∙ all-end letter _ _ (c .loop-test .left))
+
+pub all-letters-spec : {M : Type 1} → statement M
+all-letters-spec =
+    tie.close
+    (tie.spec
+    Inv-loop
+    μ-loop
+    loop-holds
+    shared-slice-read-is-letter
+    is-letter-requires
+    returns
+    add-i
+    loop-less
+    loop-again
+    returns-2)

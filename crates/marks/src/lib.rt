@@ -1,0 +1,249 @@
+// Single bytes and runs of them: the classes that document 01's text rules speak of, patterns, and the numbers that bytes spell.
+ghost use mathlib.Core.Path.{_≡_};
+ghost use mathlib.Core.Bool.{true};
+ghost use Prim.Native.Nat.{_≤_, _<_, _%_};
+ghost use lib.ListN.{length};
+ghost use Rattle.laws.specs.Bytes.{between, all, span, same};
+ghost use Rattle.marks.specs.Marks.{digit, capital, small, capitalOrDigit, letterOrDigit, letter, slashed, mark, fits, value, letterValue, spelledFrom};
+
+// ─── one byte ───
+
+// A byte from `a` to `b`.
+pub fn is_between(a: u8, b: u8, c: u8) -> bool
+    ensures { λ r. ⌜ r ≡ between a b c ⌝ }
+{
+    if c < a {
+        return false;
+    }
+    c <= b
+}
+
+// 0-9.
+pub fn is_digit(c: u8) -> bool
+    ensures { λ r. ⌜ r ≡ digit c ⌝ }
+{
+    is_between(b'0', b'9', c)
+}
+
+// A-Z.
+pub fn is_capital(c: u8) -> bool
+    ensures { λ r. ⌜ r ≡ capital c ⌝ }
+{
+    is_between(b'A', b'Z', c)
+}
+
+// A-Z 0-9.
+pub fn is_capital_or_digit(c: u8) -> bool
+    ensures { λ r. ⌜ r ≡ capitalOrDigit c ⌝ }
+{
+    if is_capital(c) {
+        return true;
+    }
+    is_digit(c)
+}
+
+// A-Z 0-9 a-z.
+pub fn is_letter_or_digit(c: u8) -> bool
+    ensures { λ r. ⌜ r ≡ letterOrDigit c ⌝ }
+{
+    if is_capital_or_digit(c) {
+        return true;
+    }
+    is_between(b'a', b'z', c)
+}
+
+// A byte of the letter set: a-z A-Z 0-9 / - ? : ( ) . , ' + and space.
+pub fn is_letter(c: u8) -> bool
+    ensures { λ r. ⌜ r ≡ letter c ⌝ }
+{
+    match c {
+        b'/' | b'-' | b'?' | b':' | b'(' | b')' | b'.' | b',' | b'\'' | b'+' | b' ' => true,
+        _ => is_letter_or_digit(c),
+    }
+}
+
+// ─── runs of a class ───
+
+// Every byte is of the letter set.
+pub fn all_letters(text: &[u8]) -> bool
+    ensures { λ r. ⌜ r ≡ all letter (now (text .entry)) ⌝ }
+{
+    let mut i = 0;
+    while i < text.len() {
+        if !is_letter(text[i]) {
+            return false;
+        }
+        i += 1;
+    }
+    true
+}
+
+// Every byte is a letter or digit.
+pub fn all_letters_or_digits(text: &[u8]) -> bool
+    ensures { λ r. ⌜ r ≡ all letterOrDigit (now (text .entry)) ⌝ }
+{
+    let mut i = 0;
+    while i < text.len() {
+        if !is_letter_or_digit(text[i]) {
+            return false;
+        }
+        i += 1;
+    }
+    true
+}
+
+// Every byte is a capital or digit.
+pub fn all_capitals_or_digits(text: &[u8]) -> bool
+    ensures { λ r. ⌜ r ≡ all capitalOrDigit (now (text .entry)) ⌝ }
+{
+    let mut i = 0;
+    while i < text.len() {
+        if !is_capital_or_digit(text[i]) {
+            return false;
+        }
+        i += 1;
+    }
+    true
+}
+
+// How many digits stand at the front.
+pub fn digits(text: &[u8]) -> usize
+    ensures { λ r. ⌜ r ≡ span digit (now (text .entry)) ⌝ }
+{
+    let mut i = 0;
+    while i < text.len() {
+        if !is_digit(text[i]) {
+            return i;
+        }
+        i += 1;
+    }
+    i
+}
+
+// A `/` at the beginning or at the end, or `//`.
+pub fn is_slashed(text: &[u8]) -> bool
+    requires { ⌜ 1 ≤ length (now text) ⌝ }
+    ensures { λ r. ⌜ r ≡ slashed (now (text .entry)) ⌝ }
+{
+    let mut before = b'/';
+    let mut i = 0;
+    while i < text.len() {
+        let c = text[i];
+        if c == b'/' {
+            if before == b'/' {
+                return true;
+            }
+        }
+        before = c;
+        i += 1;
+    }
+    before == b'/'
+}
+
+// ─── two runs held against each other ───
+
+// The same bytes.
+pub fn is_same(text: &[u8], word: &[u8]) -> bool
+    ensures { λ r. ⌜ r ≡ same (now (text .entry)) (now (word .entry)) ⌝ }
+{
+    if text.len() != word.len() {
+        return false;
+    }
+    let mut i = 0;
+    while i < text.len() {
+        if text[i] != word[i] {
+            return false;
+        }
+        i += 1;
+    }
+    true
+}
+
+// A byte that the mark of a pattern stands for: D a digit, A a capital, N a capital or digit, every other mark itself.
+pub fn is_mark(p: u8, c: u8) -> bool
+    ensures { λ r. ⌜ r ≡ mark p c ⌝ }
+{
+    if p == b'D' {
+        return is_digit(c);
+    }
+    if p == b'A' {
+        return is_capital(c);
+    }
+    if p == b'N' {
+        return is_capital_or_digit(c);
+    }
+    p == c
+}
+
+// The text has the shape of the pattern.
+pub fn has_shape(text: &[u8], pattern: &[u8]) -> bool
+    ensures { λ r. ⌜ r ≡ fits (now (pattern .entry)) (now (text .entry)) ⌝ }
+{
+    if text.len() != pattern.len() {
+        return false;
+    }
+    let mut i = 0;
+    while i < text.len() {
+        if !is_mark(pattern[i], text[i]) {
+            return false;
+        }
+        i += 1;
+    }
+    true
+}
+
+// ─── numbers ───
+
+fn wide(c: u8) -> u64
+    ensures { λ r. ⌜ r ≡ c ⌝ }
+{
+    c as u64
+}
+
+// The number that at most 15 digits spell.
+pub fn number(text: &[u8]) -> u64
+    requires { ⌜ (length (now text) ≤ 15) × (all digit (now text) ≡ true) ⌝ }
+    ensures { λ r. ⌜ r ≡ value (now (text .entry)) ⌝ }
+{
+    let mut v: u64 = 0;
+    let mut i = 0;
+    while i < text.len() {
+        v = v * 10 + (wide(text[i]) - 48);
+        i += 1;
+    }
+    v
+}
+
+// A letter as 10 to 35, a digit as itself.
+pub fn letter_number(c: u8) -> u64
+    requires { ⌜ letterOrDigit c ≡ true ⌝ }
+    ensures { λ r. ⌜ r ≡ letterValue c ⌝ }
+{
+    if is_digit(c) {
+        return wide(c) - 48;
+    }
+    if is_capital(c) {
+        return wide(c) - 55;
+    }
+    wide(c) - 87
+}
+
+// What the number spelled so far leaves on division by 97, once the text follows it.
+pub fn remainder(left: u64, text: &[u8]) -> u64
+    requires { ⌜ (left < 97) × (all letterOrDigit (now text) ≡ true) ⌝ }
+    ensures { λ r. ⌜ r ≡ spelledFrom left (now (text .entry)) % 97 ⌝ }
+{
+    let mut v = left;
+    let mut i = 0;
+    while i < text.len() {
+        let c = text[i];
+        let n = letter_number(c);
+        if is_digit(c) {
+            v = (v * 10 + n) % 97;
+        } else {
+            v = (v * 100 + n) % 97;
+        }
+        i += 1;
+    }
+    v
+}

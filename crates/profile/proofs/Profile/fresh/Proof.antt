@@ -1,0 +1,13 @@
+-- `profile::Profile::fresh` meets its contract. Its batch is the fresh one.
+use borrow.Author.Needs.{needs}
+use Rattle.profile.proofs.Profile.fresh.Statement.{statement}
+use Rattle.profile.proofs.Profile.fresh.Tie as tie
+
+fresh-requires : tie.Need-fresh-requires
+fresh-requires c κs = search needs
+
+returns : tie.Need-returns
+returns c = rw (c .fresh .ensures)
+
+pub fresh-spec : {M : Type 1} → statement M
+fresh-spec = tie.close (tie.spec fresh-requires returns)

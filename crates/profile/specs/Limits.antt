@@ -1,0 +1,20 @@
+-- THE LIMITS of document 01. To be believed; definitions only. That the code's named constants are these is `Profile::limits`.
+--   limits       all of them, as the code has them
+--   mostBytes    1,048,576     mostBatches  64     mostTransactions  2,000     mostCents  999999999.99 as cents
+use Prim.Native.Nat.{ℕ}
+use Rattle.profile.specs.declared.Limits.{Limits}
+
+abbrev pub mostBytes : ℕ
+mostBytes = 1_048_576
+
+abbrev pub mostBatches : ℕ
+mostBatches = 64
+
+abbrev pub mostTransactions : ℕ
+mostTransactions = 2_000
+
+abbrev pub mostCents : ℕ
+mostCents = 99_999_999_999
+
+abbrev pub limits : Limits
+limits = record { bytes = mostBytes; batches = mostBatches; transactions = mostTransactions; cents = mostCents }

@@ -1,0 +1,306 @@
+// The profile's limits by name, the standard's two quantities, what a batch declares, the refusals with document 01's numbers and places, and the running tally.
+ghost use mathlib.Core.Path.{_≡_};
+ghost use Prim.Native.Nat.{_+_, _^_, _<_};
+ghost use Rattle.profile.specs.Limits.{limits};
+ghost use Rattle.profile.specs.Refusals.{numberOf, placeOf, listNumberOf, listPlaceOf};
+ghost use Rattle.profile.specs.Totals.{countDiffers, sumDiffers, freshBatch, freshTally, withTransaction, closed, totals};
+
+// ─── the quantities ───
+
+// A number of transactions. It never stands where cents are meant.
+pub struct NumberOfTransactions(pub u64);
+
+// A sum of cents.
+pub struct ControlSum(pub u64);
+
+// What a batch or the header declares of its count: nothing, or a number.
+pub enum DeclaredCount {
+    Absent,
+    Count(NumberOfTransactions),
+}
+
+// What a batch or the header declares of its sum: nothing, or a number of cents. A declared 0 is not the same as none.
+pub enum DeclaredSum {
+    Absent,
+    Cents(ControlSum),
+}
+
+// True where a count is declared and is not `count`.
+pub fn count_differs(declared: DeclaredCount, count: NumberOfTransactions) -> bool
+    ensures { λ r. ⌜ r ≡ countDiffers declared count ⌝ }
+{
+    match declared {
+        DeclaredCount::Absent => false,
+        DeclaredCount::Count(d) => d.0 != count.0,
+    }
+}
+
+// True where a sum is declared and is not `sum`.
+pub fn sum_differs(declared: DeclaredSum, sum: ControlSum) -> bool
+    ensures { λ r. ⌜ r ≡ sumDiffers declared sum ⌝ }
+{
+    match declared {
+        DeclaredSum::Absent => false,
+        DeclaredSum::Cents(d) => d.0 != sum.0,
+    }
+}
+
+// ─── the running tally ───
+
+// A batch: the exact count and cents of its transactions, and what it declares.
+pub struct Batch {
+    pub count: NumberOfTransactions,
+    pub sum: ControlSum,
+    pub declared_count: DeclaredCount,
+    pub declared_sum: DeclaredSum,
+}
+
+impl Batch {
+    // A batch of which nothing was read.
+    pub fn fresh() -> Self
+        ensures { λ r. ⌜ r ≡ freshBatch ⌝ }
+    {
+        Batch {
+            count: NumberOfTransactions(0),
+            sum: ControlSum(0),
+            declared_count: DeclaredCount::Absent,
+            declared_sum: DeclaredSum::Absent,
+        }
+    }
+}
+
+// What an accepted message answers: its batches, transactions and cents.
+pub struct Totals {
+    pub batches: u64,
+    pub transactions: NumberOfTransactions,
+    pub cents: ControlSum,
+}
+
+// The totals of the batches that are closed, and the batch that is open.
+pub struct Tally {
+    pub closed: Totals,
+    pub batch: Batch,
+}
+
+impl Tally {
+    // One transaction more in the open batch.
+    pub fn add_transaction(self, cents: ControlSum) -> Self
+        requires { ⌜ (self .batch .count .0 + 1 < 2 ^ 64) × (self .batch .sum .0 + cents .0 < 2 ^ 64) ⌝ }
+        ensures { λ r. ⌜ r ≡ withTransaction self cents ⌝ }
+    {
+        let closed = self.closed;
+        let batch = self.batch;
+        let declared_count = batch.declared_count;
+        let declared_sum = batch.declared_sum;
+        Tally {
+            closed,
+            batch: Batch {
+                count: NumberOfTransactions(batch.count.0 + 1),
+                sum: ControlSum(batch.sum.0 + cents.0),
+                declared_count,
+                declared_sum,
+            },
+        }
+    }
+
+    // The open batch joins the totals, and a fresh one is open.
+    pub fn close_batch(self) -> Self
+        requires { ⌜ (self .closed .batches + 1 < 2 ^ 64) × (self .closed .transactions .0 + self .batch .count .0 < 2 ^ 64) × (self .closed .cents .0 + self .batch .sum .0 < 2 ^ 64) ⌝ }
+        ensures { λ r. ⌜ r ≡ closed self ⌝ }
+    {
+        let before = self.closed;
+        let ended = self.batch;
+        let batch = Batch::fresh();
+        Tally {
+            closed: Totals {
+                batches: before.batches + 1,
+                transactions: NumberOfTransactions(before.transactions.0 + ended.count.0),
+                cents: ControlSum(before.cents.0 + ended.sum.0),
+            },
+            batch,
+        }
+    }
+
+    // The totals of the closed batches, handed back.
+    pub fn hand_back(self) -> Totals
+        ensures { λ r. ⌜ r ≡ totals self ⌝ }
+    {
+        self.closed
+    }
+}
+
+// ─── the limits ───
+
+// The limits as one value, for whoever wants them together.
+pub struct Limits {
+    pub bytes: usize,
+    pub batches: u64,
+    pub transactions: u64,
+    pub cents: u64,
+}
+
+// The profile of a message: its limits by name, and the tally that a reading starts with.
+pub struct Profile {
+    pub tally: Tally,
+}
+
+impl Profile {
+    // The longest message, in bytes.
+    pub const BYTES: usize = 1048576;
+
+    // The most batches of a message.
+    pub const BATCHES: u64 = 64;
+
+    // The most transactions of a message.
+    pub const TRANSACTIONS: u64 = 2000;
+
+    // The most cents of one amount: 999999999.99.
+    pub const CENTS: u64 = 99999999999;
+
+    // The limits are those of document 01.
+    pub fn limits() -> Limits
+        ensures { λ r. ⌜ r ≡ limits ⌝ }
+    {
+        Limits {
+            bytes: Profile::BYTES,
+            batches: Profile::BATCHES,
+            transactions: Profile::TRANSACTIONS,
+            cents: Profile::CENTS,
+        }
+    }
+
+    // Nothing was read.
+    pub fn fresh() -> Self
+        ensures { λ r. ⌜ r .tally ≡ freshTally ⌝ }
+    {
+        let batch = Batch::fresh();
+        Profile {
+            tally: Tally {
+                closed: Totals {
+                    batches: 0,
+                    transactions: NumberOfTransactions(0),
+                    cents: ControlSum(0),
+                },
+                batch,
+            },
+        }
+    }
+}
+
+// ─── the refusals ───
+
+// The kind of rule that a text breaks.
+pub enum Flaw {
+    Length,
+    Letter,
+    Slash,
+    Number,
+    Date,
+    Code,
+    Shape,
+    CheckDigits,
+}
+
+// Why a message is refused, with the place that the case has.
+pub enum Refusal {
+    TooLong,
+    NotOfTheForm(usize),
+    TooManyBatches(usize),
+    TooManyTransactions(usize),
+    Text(Flaw, usize),
+    BatchCount(usize),
+    BatchSum(usize),
+    MessageCount(usize),
+    MessageSum(usize),
+    SlipsTooShort(usize),
+    BatchesTooShort(usize),
+}
+
+impl Refusal {
+    // Document 01's number.
+    pub fn number(self) -> u64
+        ensures { λ r. ⌜ r ≡ numberOf self ⌝ }
+    {
+        match self {
+            Refusal::TooLong => 1,
+            Refusal::NotOfTheForm(_) => 2,
+            Refusal::TooManyBatches(_) => 3,
+            Refusal::TooManyTransactions(_) => 4,
+            Refusal::Text(_, _) => 5,
+            Refusal::BatchCount(_) => 6,
+            Refusal::BatchSum(_) => 7,
+            Refusal::MessageCount(_) => 8,
+            Refusal::MessageSum(_) => 9,
+            Refusal::SlipsTooShort(_) => 10,
+            Refusal::BatchesTooShort(_) => 11,
+        }
+    }
+
+    // Document 01's place.
+    pub fn place(self) -> usize
+        ensures { λ r. ⌜ r ≡ placeOf self ⌝ }
+    {
+        match self {
+            Refusal::TooLong => Profile::BYTES,
+            Refusal::NotOfTheForm(p) => p,
+            Refusal::TooManyBatches(p) => p,
+            Refusal::TooManyTransactions(p) => p,
+            Refusal::Text(_, p) => p,
+            Refusal::BatchCount(p) => p,
+            Refusal::BatchSum(p) => p,
+            Refusal::MessageCount(p) => p,
+            Refusal::MessageSum(p) => p,
+            Refusal::SlipsTooShort(n) => n,
+            Refusal::BatchesTooShort(n) => n,
+        }
+    }
+}
+
+// Why a day list is refused, with the place that the case has.
+pub enum ListRefusal {
+    TooLong,
+    Ceiling,
+    NotAFrame(usize),
+    NoCollection(usize),
+    TooManyCollections,
+    Value(Flaw, usize),
+    TooManyBatches(usize),
+    OutputTooShort(usize),
+}
+
+impl ListRefusal {
+    // The line of the first collection that is one too many: behind the creditor line and a thousand collections.
+    pub const FIRST_TOO_MANY: usize = 1002;
+
+    // Document 01's number.
+    pub fn number(self) -> u64
+        ensures { λ r. ⌜ r ≡ listNumberOf self ⌝ }
+    {
+        match self {
+            ListRefusal::TooLong => 21,
+            ListRefusal::Ceiling => 22,
+            ListRefusal::NotAFrame(_) => 23,
+            ListRefusal::NoCollection(_) => 24,
+            ListRefusal::TooManyCollections => 25,
+            ListRefusal::Value(_, _) => 26,
+            ListRefusal::TooManyBatches(_) => 27,
+            ListRefusal::OutputTooShort(_) => 28,
+        }
+    }
+
+    // Document 01's place.
+    pub fn place(self) -> usize
+        ensures { λ r. ⌜ r ≡ listPlaceOf self ⌝ }
+    {
+        match self {
+            ListRefusal::TooLong => 0,
+            ListRefusal::Ceiling => 0,
+            ListRefusal::NotAFrame(line) => line,
+            ListRefusal::NoCollection(lines) => lines,
+            ListRefusal::TooManyCollections => ListRefusal::FIRST_TOO_MANY,
+            ListRefusal::Value(_, line) => line,
+            ListRefusal::TooManyBatches(needed) => needed,
+            ListRefusal::OutputTooShort(needed) => needed,
+        }
+    }
+}

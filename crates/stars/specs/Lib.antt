@@ -1,0 +1,2 @@
+-- Stars   the ★ cases of document 01, one list
+pub mod Stars

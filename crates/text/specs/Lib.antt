@@ -1,0 +1,2 @@
+-- Rules   the text rules of document 01
+pub mod Rules

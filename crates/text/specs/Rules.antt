@@ -1,0 +1,182 @@
+-- THE TEXT RULES of document 01, section "Texts", in its order. To be believed; definitions only.
+-- A rule judges a text: `Good n`, n being the number that the text tells (0 where it tells none), or `Bad` with the kind of the first test that fails.
+--   identifier, name, remittance         plain texts of the letter set
+--   count, sum, amount                   NbOfTxs tells its number, CtrlSum and InstdAmt their cents
+--   date, time                           a date tells year, month and day as the number yyyymmdd
+--   iban, bic, creditorIdentifier        shapes, and the check digits of an IBAN
+--   method .. notProvided                codes: each tells its place, from 0, among the words listed
+--   judged r s                           the text s judged by the rule r
+use Prim.Native.Nat.{ℕ, suc, _+_, _-_, _*_, _%_}
+use Prim.Native.String.{String}
+use mathlib.Core.Bool.{Bool, true, false, not, _&&_, _||_}
+use mathlib.Core.List.{List, [], _∷_, _++_}
+use lib.Dec.{eqb, leb}
+use lib.ListN.{length, take, drop, getD}
+use Rattle.laws.specs.Bytes.{Bytes, ascii, between, all, span, same}
+use Rattle.marks.specs.Marks.{digit, capitalOrDigit, letterOrDigit, letter, slashed, fits, value, spelled}
+use Rattle.profile.specs.Limits.{mostCents}
+use Rattle.profile.specs.declared.Flaw.{Flaw}
+use Rattle.profile.specs.declared.Flaw.the-variants.{Length, Letter, Slash, Number, Date, Code, Shape, CheckDigits}
+use Rattle.text.specs.declared.Judged.{Judged}
+use Rattle.text.specs.declared.Judged.the-variants.{Good, Bad}
+use Rattle.text.specs.declared.Rule.{Rule}
+use Rattle.text.specs.declared.Rule.the-variants.{Identifier, Name, Remittance, Count, Sum, Amount, Date as Day, Time, Iban, Bic, CreditorIdentifier, Method, Booking, Sepa, Scheme, Sequence, Charges, NotProvided}
+
+-- a test: where it fails, the text has the flaw f
+abbrev pub must : Bool → Flaw → Judged → Judged
+must true f j = j
+must false f j = Bad f
+
+-- the text breaks no rule
+abbrev pub good : Judged → Bool
+good (Good n) = true
+good (Bad f) = false
+
+-- what it tells, 0 where it breaks its rule
+abbrev pub told : Judged → ℕ
+told (Good n) = n
+told (Bad f) = 0
+
+-- ─── plain texts ───
+
+-- 1 to n bytes of the letter set
+abbrev pub plain : ℕ → Bytes → Judged
+plain n s = must (between 1 n (length s)) Length (must (all letter s) Letter (Good 0))
+
+abbrev pub identifier : Bytes → Judged
+identifier s = must (between 1 35 (length s)) Length (must (all letter s) Letter (must (not (slashed s)) Slash (Good 0)))
+
+abbrev pub name : Bytes → Judged
+name s = plain 70 s
+
+abbrev pub remittance : Bytes → Judged
+remittance s = plain 140 s
+
+-- ─── numbers: 46 is the point, 48 the digit 0 ───
+
+abbrev pub count : Bytes → Judged
+count s = must (between 1 15 (length s) && all digit s) Number (Good (value s))
+
+-- what may stand behind the whole euros: nothing, or a point and one or two digits; and the cents that it is worth
+abbrev pub decimals : Bytes → Bool
+decimals [] = true
+decimals (c ∷ s) = eqb c 46 && (between 1 2 (length s) && all digit s)
+
+abbrev pub hundredths : Bytes → ℕ
+hundredths s = (getD s 1 48 - 48) * 10 + (getD s 2 48 - 48)
+
+-- 1 to n digits, then optionally a point and 1 or 2 digits
+abbrev pub euros : ℕ → Bytes → Bool
+euros n s = between 1 n (span digit s) && decimals (drop (span digit s) s)
+
+abbrev pub cents : Bytes → ℕ
+cents s = value (take (span digit s) s) * 100 + hundredths (drop (span digit s) s)
+
+abbrev pub sum : Bytes → Judged
+sum s = must (euros 15 s) Number (Good (cents s))
+
+abbrev pub amount : Bytes → Judged
+amount s = must (euros 9 s && between 1 mostCents (cents s)) Number (Good (cents s))
+
+-- ─── dates ───
+
+-- the number that the n bytes from the place a on spell
+abbrev pub part : ℕ → ℕ → Bytes → ℕ
+part a n s = value (take n (drop a s))
+
+abbrev pub leap : ℕ → Bool
+leap y = eqb (y % 4) 0 && (not (eqb (y % 100) 0) || eqb (y % 400) 0)
+
+abbrev pub february : Bool → ℕ
+february true = 29
+february false = 28
+
+-- the days of a month, counted from 1
+abbrev pub days : ℕ → ℕ → ℕ
+days y m = getD (31 ∷ february (leap y) ∷ 31 ∷ 30 ∷ 31 ∷ 30 ∷ 31 ∷ 31 ∷ 30 ∷ 31 ∷ 30 ∷ 31 ∷ []) (m - 1) 0
+
+-- a real Gregorian day, years 1900 to 2099
+abbrev pub realDay : ℕ → ℕ → ℕ → Bool
+realDay y m d = between 1900 2099 y && (between 1 12 m && between 1 (days y m) d)
+
+abbrev pub dated : Bytes → Bool
+dated s = fits (ascii "DDDD-DD-DD") s && realDay (part 0 4 s) (part 5 2 s) (part 8 2 s)
+
+abbrev pub date : Bytes → Judged
+date s = must (dated s) Date (Good (part 0 4 s * 10_000 + part 5 2 s * 100 + part 8 2 s))
+
+abbrev pub clock : Bytes → Bool
+clock s = fits (ascii "TDD:DD:DD") s && (between 0 23 (part 1 2 s) && (between 0 59 (part 4 2 s) && between 0 59 (part 7 2 s)))
+
+abbrev pub time : Bytes → Judged
+time s = must (dated (take 10 s) && clock (drop 10 s)) Date (Good 0)
+
+-- ─── IBAN, BICFI, creditor identifier ───
+
+-- what the number leaves on division by 97, the first four moved to the end
+abbrev pub leaves : Bytes → ℕ
+leaves s = spelled (drop 4 s ++ take 4 s) % 97
+
+abbrev pub iban : Bytes → Judged
+iban s =
+    must (fits (ascii "AADD") (take 4 s) && (between 1 30 (length (drop 4 s)) && all letterOrDigit (drop 4 s))) Shape
+    (must (eqb (leaves s) 1) CheckDigits (Good 0))
+
+abbrev pub bic : Bytes → Judged
+bic s = must ((fits (ascii "NNNNAANN") s || fits (ascii "NNNNAANNNNN") s) && not (same s (ascii "NOTPROVIDED"))) Shape (Good 0)
+
+abbrev pub creditorIdentifier : Bytes → Judged
+creditorIdentifier s = must (fits (ascii "AADDNNN") (take 7 s) && (between 1 28 (length (drop 7 s)) && all capitalOrDigit (drop 7 s))) Shape (Good 0)
+
+-- ─── codes ───
+
+-- one of the words, of which n stand before these
+abbrev pub codeFrom : ℕ → List String → Bytes → Judged
+codeFrom n [] s = Bad Code
+codeFrom n (w ∷ ws) s = elim (same s (ascii w)) [ true ↦ Good n | false ↦ codeFrom (suc n) ws s ]
+
+abbrev pub oneOf : List String → Bytes → Judged
+oneOf ws s = codeFrom 0 ws s
+
+abbrev pub method : Bytes → Judged
+method s = oneOf ("DD" ∷ []) s
+
+abbrev pub booking : Bytes → Judged
+booking s = oneOf ("true" ∷ "false" ∷ []) s
+
+abbrev pub sepa : Bytes → Judged
+sepa s = oneOf ("SEPA" ∷ []) s
+
+abbrev pub scheme : Bytes → Judged
+scheme s = oneOf ("CORE" ∷ "B2B" ∷ []) s
+
+abbrev pub sequence : Bytes → Judged
+sequence s = oneOf ("FRST" ∷ "RCUR" ∷ "OOFF" ∷ "FNAL" ∷ []) s
+
+abbrev pub charges : Bytes → Judged
+charges s = oneOf ("SLEV" ∷ []) s
+
+abbrev pub notProvided : Bytes → Judged
+notProvided s = oneOf ("NOTPROVIDED" ∷ []) s
+
+-- ─── each rule by its name ───
+
+abbrev pub judged : Rule → Bytes → Judged
+judged Identifier s = identifier s
+judged Name s = name s
+judged Remittance s = remittance s
+judged Count s = count s
+judged Sum s = sum s
+judged Amount s = amount s
+judged Day s = date s
+judged Time s = time s
+judged Iban s = iban s
+judged Bic s = bic s
+judged CreditorIdentifier s = creditorIdentifier s
+judged Method s = method s
+judged Booking s = booking s
+judged Sepa s = sepa s
+judged Scheme s = scheme s
+judged Sequence s = sequence s
+judged Charges s = charges s
+judged NotProvided s = notProvided s

@@ -1,0 +1,77 @@
+-- EACH WAY OF OCCURRING, by cases: how often an element may stand, on a small tree of its own. What is computed of the reader holds of `OfForm` by `read-right`.
+--   counts h        for 0, 1, 2 and 3 elements of the way h before a last one: is the message of the form?
+--   ways-right      once: only 1; maybe: 0, 1; at most two: 0, 1, 2; any: all; one or more: all but 0
+--   choice-right    a | b: either one, and neither none nor both
+--   is-of-form, is-not-of-form   what the answers say
+use Prim.Native.Nat.{ℕ, zero, suc}
+use Prim.Native.String.{String}
+use mathlib.Core.Bool.{Bool, true, false, not, _&&_}
+use mathlib.Core.List.{List, [], _∷_, _++_}
+use mathlib.Core.Path.{_≡_, refl}
+use lib.Dec.{T}
+use Rattle.laws.specs.Bytes.{Bytes, ascii}
+use Rattle.tree.specs.Form.{How, Elem, Items, elem, none, item, once, maybe, atMostTwo, any, oneOrMore, thisOrNext, OfForm}
+use Rattle.tree.specs.declared.Kind.the-variants.{Holds}
+use Rattle.tree.specs.Apart.{okMessage}
+use Rattle.tree.specs.Reader.{Res, Res.done, Res.stuck, read, kids}
+use Rattle.tree.proofs.Whole.{Promise, read-right}
+
+-- ─── a small tree: <r>, elements <a> of the way h, then one <z> ───
+
+abbrev leaf : String → Elem
+leaf nm = elem 0 (ascii nm) [] Holds none
+
+abbrev root : Items → Elem
+root is = elem 0 (ascii "r") [] Holds is
+
+abbrev decl : Bytes
+decl = ascii "?"
+
+abbrev accepted : Res → Bool
+accepted (done es) = true
+accepted (stuck n) = false
+
+abbrev is : Items → Bytes → Bool
+is i s = accepted (read decl (root i) (ascii "<r>" ++ (s ++ ascii "</r>")))
+
+abbrev copies : ℕ → Bytes
+copies zero = ascii "<z></z>"
+copies (suc n) = ascii "<a></a> " ++ copies n
+
+abbrev counts : How → List Bool
+counts h = let i = item h (leaf "a") (item once (leaf "z") none) in is i (copies 0) ∷ is i (copies 1) ∷ is i (copies 2) ∷ is i (copies 3) ∷ []
+
+pub ways-right :
+    (counts once ≡ false ∷ true ∷ false ∷ false ∷ [])
+    × (counts maybe ≡ true ∷ true ∷ false ∷ false ∷ [])
+    × (counts atMostTwo ≡ true ∷ true ∷ true ∷ false ∷ [])
+    × (counts any ≡ true ∷ true ∷ true ∷ true ∷ [])
+    × (counts oneOrMore ≡ false ∷ true ∷ true ∷ true ∷ [])
+unfolding kids
+ways-right = (refl, refl, refl, refl, refl)
+
+-- a | b
+abbrev choice : Items
+choice = item thisOrNext (leaf "a") (item once (leaf "b") none)
+
+pub choice-right :
+    is choice (ascii "<a></a>") ∷ is choice (ascii "<b></b>") ∷ is choice [] ∷ is choice (ascii "<a></a><b></b>") ∷ []
+    ≡ true ∷ true ∷ false ∷ false ∷ []
+unfolding kids
+choice-right = refl
+
+-- ─── what the answers say, of every description that passes the test ───
+
+pub is-of-form : (d : Bytes) (e : Elem) → T (okMessage d e) → (s : Bytes) → T (accepted (read d e s)) → OfForm d e s
+is-of-form d e ok s = go (read d e s) (read-right d e ok s)
+  where
+    go : (o : Res) → Promise d e s o → T (accepted o) → OfForm d e s
+    go (done es) p t = (p .0, p .1)
+    go (stuck n) p t = absurd t
+
+pub is-not-of-form : (d : Bytes) (e : Elem) → T (okMessage d e) → (s : Bytes) → T (not (accepted (read d e s))) → OfForm d e s → ⊥
+is-not-of-form d e ok s = go (read d e s) (read-right d e ok s)
+  where
+    go : (o : Res) → Promise d e s o → T (not (accepted o)) → OfForm d e s → ⊥
+    go (done es) p t = absurd t
+    go (stuck n) p t = p .0
