@@ -1,0 +1,347 @@
+-- WHAT THE LOOP OVER CHILDREN KEEPS, in plain variables: what was to be read from the first place on is what is to be read from here on.
+--   eat-part, eat-whole    a word that stands at a place in part, or whole
+--   Going                  the rows from k on hold what is left of the children of c, and `far` is how far a tag agreed that was passed over
+--   going-start            before the first turn
+--   going-skip             a child that may be missing does not stand there
+--   going-stuck            one that must stand does not
+--   going-child            a child was read; going-lost: it was not
+--   going-close            no child is left
+--   element-read           an element: its run, its event, its children
+use Prim.Native.Nat.{ℕ, zero, suc, _+_, _-_, _<_, _≤_, max}
+use native.Mathlib.Nat.{not-suc-le-zero, zero-max}
+use native.Mathlib.Omega.{arith}
+use mathlib.Core.Bool.{Bool, true, false, not}
+use mathlib.Core.List.{List, [], _∷_, _++_}
+use mathlib.Core.Path.{_≡_, refl, ap, sym, subst, _∙_}
+use mathlib.Core.Logic.{_⊎_, inl, inr}
+use lib.Dec.{T, eqb, ltb}
+use lib.ListN.{length, drop}
+use borrow.Author.Tests.{lt-ltb, le-ltb, ltb-false}
+use native.Mathlib.Decide.{decLt}
+use Rattle.laws.specs.Bytes.{Bytes, span}
+use Rattle.laws.proofs.Tests.{eqb-cases, eqb-comm, bool-cases}
+use Rattle.tree.specs.declared.Kind.{Kind}
+use Rattle.tree.specs.declared.Kind.the-variants.{Holds}
+use Rattle.tree.specs.declared.Event.{Event}
+use Rattle.tree.specs.Form.{How, Elem, Items, none, item, event, part, kind, items, inRun, opening, closing, skips, after, common}
+use Rattle.tree.specs.Tags.{Eat, ate, miss, oneMore, eat, Choice, stop, close, child, far, closes, choose}
+use Rattle.step.specs.declared.State.{State}
+use Rattle.step.specs.Step.{Carried, stepOf, Within}
+use Rattle.step.proofs.Bounds.{within-more}
+use Rattle.table.specs.declared.Element.{Element}
+use Rattle.table.specs.declared.Row.{Row}
+use Rattle.reader.specs.declared.walk.Reading.{Reading}
+use Rattle.reader.specs.declared.walk.Reading.the-variants.{Ended, Stuck}
+use Rattle.table.specs.Table as table
+use Rattle.table.specs.Held.{holdsElem, holdsItems}
+use Rattle.reader.specs.Walk.{At, ended, halts, childrenAt, elementAt, othersAt, stepAt}
+use Rattle.reader.specs.Told.{told, closed, pick, Fine, Ready}
+use Rattle.scan.proofs.Scans.{common-le, common-in}
+use Rattle.reader.proofs.Walks.{children-is}
+use Rattle.table.proofs.Held.{Held, held, HeldRow, held-row, held-none, Placed, placed, open-length, close-length}
+
+-- ─── a word at a place ───
+
+common-swap : (a b : ℕ) (t s : Bytes) → common (b ∷ s) (a ∷ t) ≡ elim (eqb a b) [ true ↦ suc (common s t) | false ↦ 0 ]
+common-swap a b t s = ap (λ (z : Bool). elim z [ true ↦ suc (common s t) | false ↦ 0 ]) (eqb-comm b a)
+
+pub eat-part : (t s : Bytes) → common s t < length t → eat t s ≡ miss (common s t)
+eat-part [] s h = absurd (not-suc-le-zero h)
+eat-part (a ∷ t) [] h = refl
+eat-part (a ∷ t) (b ∷ s) h = go (eqb a b) (common-swap a b t s) (eat-part t s)
+  where
+    go : (z : Bool) → common (b ∷ s) (a ∷ t) ≡ elim z [ true ↦ suc (common s t) | false ↦ 0 ] → (common s t < length t → eat t s ≡ miss (common s t))
+        → elim z [ true ↦ oneMore (eat t s) | false ↦ miss 0 ] ≡ miss (common (b ∷ s) (a ∷ t))
+    go true e f = ap oneMore (f (omega (arith, e))) ∙ ap miss (sym e)
+    go false e f = ap miss (sym e)
+
+pub eat-whole : (t s : Bytes) → length t ≤ common s t → (r : Bytes) × (eat t s ≡ ate r)
+eat-whole [] s h = (s, refl)
+eat-whole (a ∷ t) [] h = absurd (not-suc-le-zero h)
+eat-whole (a ∷ t) (b ∷ s) h = go (eqb a b) (common-swap a b t s) (eat-whole t s)
+  where
+    go : (z : Bool) → common (b ∷ s) (a ∷ t) ≡ elim z [ true ↦ suc (common s t) | false ↦ 0 ] → (length t ≤ common s t → (r : Bytes) × (eat t s ≡ ate r))
+        → (r : Bytes) × (elim z [ true ↦ oneMore (eat t s) | false ↦ miss 0 ] ≡ ate r)
+    go true e f = let r = f (omega (arith, e)) in (r .0, ap oneMore (r .1))
+    go false e f = absurd (omega (arith, e))
+
+-- ─── the choice at a place ───
+
+far-zero : (c : Choice) → far 0 c ≡ c
+far-zero (stop n) = ap stop (zero-max n)
+far-zero (close r) = refl
+far-zero (child c is r) = refl
+
+far-far : (m n : ℕ) (c : Choice) → far m (far n c) ≡ far (max m n) c
+far-far m n (stop k) = ap stop (omega arith)
+far-far m n (close r) = refl
+far-far m n (child c is r) = refl
+
+choose-miss : (h : How) (d : Elem) (is : Items) (g s : Bytes) (n : ℕ) → eat (opening d) s ≡ miss n
+    → choose (item h d is) g s ≡ elim (skips h) [ true ↦ far n (choose is g s) | false ↦ stop n ]
+choose-miss h d is g s n e = rw (e, choose)
+
+choose-skip : (h : How) (d : Elem) (is : Items) (g s : Bytes) (n : ℕ) → T (skips h) → eat (opening d) s ≡ miss n → choose (item h d is) g s ≡ far n (choose is g s)
+choose-skip h d is g s n t e = choose-miss h d is g s n e ∙ go (skips h) t
+  where
+    go : (z : Bool) → T z → elim z [ true ↦ far n (choose is g s) | false ↦ stop n ] ≡ far n (choose is g s)
+    go true t = refl
+    go false t = absurd t
+
+choose-stop : (h : How) (d : Elem) (is : Items) (g s : Bytes) (n : ℕ) → T (not (skips h)) → eat (opening d) s ≡ miss n → choose (item h d is) g s ≡ stop n
+choose-stop h d is g s n t e = choose-miss h d is g s n e ∙ go (skips h) t
+  where
+    go : (z : Bool) → T (not z) → elim z [ true ↦ far n (choose is g s) | false ↦ stop n ] ≡ stop n
+    go true t = absurd t
+    go false t = refl
+
+skips-or : (h : How) → T (skips h) ⊎ T (not (skips h))
+skips-or h = bool-cases (λ z. T z ⊎ T (not z)) (skips h) (λ t. inl tt) (λ t. inr tt)
+
+choose-child : (h : How) (d : Elem) (is : Items) (g s r : Bytes) → eat (opening d) s ≡ ate r → choose (item h d is) g s ≡ child d (after h d is) r
+choose-child h d is g s r e = rw (e, choose)
+
+-- ─── the loop ───
+
+abbrev pub carry : State → List ℕ → List ℕ → Carried
+carry st slips rows = record { state = st; slips = slips; rows = rows }
+
+-- for a message s, and what the children of c from `from` on come to with the state a₀
+module _ (s : Bytes) where
+  abbrev pub Reads : Type 0
+  Reads = At Carried (stepOf s) s
+
+  abbrev pub kidsFrom : Carried → Elem → ℕ → Reads
+  kidsFrom a c p = childrenAt Carried (stepOf s) s a (items c) c p
+
+  abbrev pub oneAt : Carried → Elem → ℕ → Reads
+  oneAt a c p = elementAt Carried (stepOf s) s a c p
+
+  abbrev pub stepFrom : Carried → Elem → ℕ → Choice → Reads
+  stepFrom a c p x = stepAt Carried (stepOf s) s a c p x
+
+  pub record Going (r₀ : Reads) (c : Elem) (k at far′ : ℕ) (a : Carried) : Type 0 where
+    pub left : Items
+    pub hold : T (holdsItems k left)
+    pub gap : ℕ
+    pub far-is : far′ ≡ at + gap
+    pub goes : r₀ ≡ stepFrom a c at (far gap (choose left (closing c) (drop at s)))
+
+  pub going-start : (e : ℕ) (c : Elem) (k from : ℕ) (a : Carried) → T (holdsElem e c) → k ≡ table.elementAt e .first → Going (kidsFrom a c from) c k from from a
+  going-start e c k from a t q = record {
+    left = items c;
+    hold = subst (λ (j : ℕ). T (holdsItems j (items c))) (sym q) (held e c t .below);
+    gap = 0;
+    far-is = omega arith;
+    goes = children-is Carried (stepOf s) s a (items c) c from ∙ ap (stepFrom a c from) (sym (far-zero (choose (items c) (closing c) (drop from s))));
+  }
+
+  -- at the row k, whose element is tried at `at`
+  module _ (r₀ : Reads) (c : Elem) (k at far′ : ℕ) (a : Carried) (r : Row) (y : Element) (n : ℕ) (small : k < 62) (q : r ≡ table.rowAt k) (w : y ≡ table.elementAt (r .element))
+      (o : n ≡ common (drop at s) (table.openTag y)) where
+    -- what the rows hold there
+    pub record Tried (g : Going r₀ c k at far′ a) : Type 0 where
+      pub how : How
+      pub elem : Elem
+      pub rest : Items
+      pub is : g .left ≡ item how elem rest
+      pub row : HeldRow k how elem rest
+
+    pub tried : (g : Going r₀ c k at far′ a) → Tried g
+    tried g = go (g .left) (g .hold) refl
+      where
+        go : (is : Items) → T (holdsItems k is) → g .left ≡ is → Tried g
+        go none t e = absurd (omega (arith, held-none k t))
+        go (item h d is) t e = record { how = h; elem = d; rest = is; is = e; row = held-row k h d is t }
+
+    -- the element that was tried is the row's
+    kept : (g : Going r₀ c k at far′ a) → Held (r .element) (tried g .elem)
+    kept g = held (r .element) (tried g .elem) (subst (λ (x : Row). T (holdsElem (x .element) (tried g .elem))) (sym q) (tried g .row .child))
+
+    tag : (g : Going r₀ c k at far′ a) → table.openTag y ≡ opening (tried g .elem)
+    tag g = ap table.openTag w ∙ kept g .open-tag
+
+    agreed : (g : Going r₀ c k at far′ a) → common (drop at s) (opening (tried g .elem)) ≡ n
+    agreed g = ap (common (drop at s)) (sym (tag g)) ∙ sym o
+
+    len : (g : Going r₀ c k at far′ a) → length (opening (tried g .elem)) ≡ y .close - y .«open»
+    len g = ap length (sym (tag g)) ∙ open-length y (placed (r .element) y (kept g .small) w)
+
+    missed : (g : Going r₀ c k at far′ a) → n < y .close - y .«open» → eat (opening (tried g .elem)) (drop at s) ≡ miss n
+    missed g l = eat-part (opening (tried g .elem)) (drop at s) (omega (arith, agreed g, len g)) ∙ ap miss (agreed g)
+
+    pub going-skip : n < y .close - y .«open» → k < r .other → (f : ℕ) → f ≡ max far′ (at + n) → Going r₀ c k at far′ a → Going r₀ c (r .other) at f a
+    going-skip l u f e g = go (skips-or (tried g .how))
+      where
+        t : Tried g
+        t = tried g
+
+        go : T (skips (t .how)) ⊎ T (not (skips (t .how))) → Going r₀ c (r .other) at f a
+        go (inr x) = absurd (omega (arith, t .row .last x, ap (λ (y : Row). y .other) q))
+        go (inl x) = record {
+          left = t .rest;
+          hold = subst (λ (y : Row). T (holdsItems (y .other) (t .rest))) (sym q) (t .row .other x .1);
+          gap = max (g .gap) n;
+          far-is = omega (arith, e, g .far-is);
+          goes = g .goes ∙ ap (λ (is : Items). stepFrom a c at (far (g .gap) (choose is (closing c) (drop at s)))) (t .is)
+              ∙ ap (λ (x : Choice). stepFrom a c at (far (g .gap) x)) (choose-skip (t .how) (t .elem) (t .rest) (closing c) (drop at s) n x (missed g l))
+              ∙ ap (stepFrom a c at) (far-far (g .gap) n (choose (t .rest) (closing c) (drop at s)));
+        }
+
+    pub going-stuck : n < y .close - y .«open» → r .other ≤ k → (f : ℕ) → f ≡ max far′ (at + n) → Going r₀ c k at far′ a → r₀ ≡ halts f
+    going-stuck l u f e g = go (skips-or (tried g .how))
+      where
+        t : Tried g
+        t = tried g
+
+        go : T (skips (t .how)) ⊎ T (not (skips (t .how))) → r₀ ≡ halts f
+        go (inl x) = absurd (omega (arith, t .row .other x .0, ap (λ (y : Row). y .other) q))
+        go (inr x) =
+            g .goes ∙ ap (λ (is : Items). stepFrom a c at (far (g .gap) (choose is (closing c) (drop at s)))) (t .is)
+            ∙ ap (λ (x : Choice). stepFrom a c at (far (g .gap) x)) (choose-stop (t .how) (t .elem) (t .rest) (closing c) (drop at s) n x (missed g l))
+            ∙ ap halts (omega (arith, e, g .far-is))
+
+    -- the tag stands there whole: what is to come is the element, and then the other children
+    whole : (g : Going r₀ c k at far′ a) → y .close - y .«open» ≤ n
+        → r₀ ≡ othersAt Carried (stepOf s) s (after (tried g .how) (tried g .elem) (tried g .rest)) c (oneAt a (tried g .elem) at)
+    whole g l =
+        let t : Tried g = tried g in
+        let u = eat-whole (opening (t .elem)) (drop at s) (omega (arith, agreed g, len g)) in
+        g .goes ∙ ap (λ (is : Items). stepFrom a c at (far (g .gap) (choose is (closing c) (drop at s)))) (t .is)
+        ∙ ap (λ (x : Choice). stepFrom a c at (far (g .gap) x)) (choose-child (t .how) (t .elem) (t .rest) (closing c) (drop at s) (u .0) (u .1))
+
+    -- it was read: x came of it, with what the tables then held
+    module _ (l : y .close - y .«open» ≤ n) (x : Reading) (slips rows : List ℕ)
+        (ih : (d : Elem) → T (holdsElem (r .element) d) → told s x slips rows ≡ oneAt a d at) where
+      read-as : (g : Going r₀ c k at far′ a) → told s x slips rows ≡ oneAt a (tried g .elem) at
+      read-as g = ih (tried g .elem) (subst (λ (z : Row). T (holdsElem (z .element) (tried g .elem))) (sym q) (tried g .row .child))
+
+      pub going-lost : (p : ℕ) → x ≡ Stuck p → Going r₀ c k at far′ a → r₀ ≡ halts p
+      going-lost p e g =
+          let t : Tried g = tried g in
+          whole g l ∙ ap (othersAt Carried (stepOf s) s (after (t .how) (t .elem) (t .rest)) c) (sym (read-as g) ∙ ap (λ (z : Reading). told s z slips rows) e)
+
+      pub going-child : (p : ℕ) (st : State) (at′ : ℕ) → x ≡ Ended p st → at′ ≡ p + span (inRun Holds) (drop p s) → Going r₀ c k at far′ a
+          → Going r₀ c (r .next) at′ at′ (carry st slips rows)
+      going-child p st at′ e v g =
+          let t : Tried g = tried g in
+          let is : Items = after (t .how) (t .elem) (t .rest) in
+          let b : Carried = carry st slips rows in
+          record {
+            left = is;
+            hold = subst (λ (z : Row). T (holdsItems (z .next) is)) (sym q) (t .row .next);
+            gap = 0;
+            far-is = omega arith;
+            goes =
+                whole g l ∙ ap (othersAt Carried (stepOf s) s is c) (sym (read-as g) ∙ ap (λ (z : Reading). told s z slips rows) e)
+                ∙ ap (λ (j : ℕ). childrenAt Carried (stepOf s) s b is c j) (sym v)
+                ∙ children-is Carried (stepOf s) s b is c at′ ∙ ap (stepFrom b c at′) (sym (far-zero (choose is (closing c) (drop at′ s))));
+          }
+
+  -- ─── the end of the loop ───
+
+  close-choice : (a : Carried) (c : Elem) (at m n : ℕ) (x : Eat) → x ≡ miss n → stepFrom a c at (far m (closes x)) ≡ halts (at + max m n)
+  close-choice a c at m n x e = ap (λ (z : Eat). stepFrom a c at (far m (closes z))) e
+
+  close-whole : (a : Carried) (c : Elem) (at m : ℕ) (r : Bytes) (x : Eat) → x ≡ ate r → stepFrom a c at (far m (closes x)) ≡ ended (at + length (closing c)) a
+  close-whole a c at m r x e = ap (λ (z : Eat). stepFrom a c at (far m (closes z))) e
+
+  closed-part : (e far′ at : ℕ) (st : State) → (let t = table.closeTag (table.elementAt e) in common (drop at s) t < length t)
+      → closed s e far′ at st ≡ Stuck (max far′ (at + common (drop at s) (table.closeTag (table.elementAt e))))
+  unfolding closed
+  closed-part e far′ at st l = rw (lt-ltb _ _ l)
+
+  closed-whole : (e far′ at : ℕ) (st : State) → (let t = table.closeTag (table.elementAt e) in length t ≤ common (drop at s) t)
+      → closed s e far′ at st ≡ Ended (at + common (drop at s) (table.closeTag (table.elementAt e))) st
+  unfolding closed
+  closed-whole e far′ at st l = rw (le-ltb _ _ l)
+
+  pub going-close : (r₀ : Reads) (e : ℕ) (c : Elem) (k at far′ : ℕ) (st : State) (slips rows : List ℕ) → T (holdsElem e c) → 62 ≤ k
+      → Going r₀ c k at far′ (carry st slips rows) → told s (closed s e far′ at st) slips rows ≡ r₀
+  going-close r₀ e c k at far′ st slips rows t l g = go (g .left) (g .hold) refl
+    where
+      a : Carried
+      a = carry st slips rows
+
+      tag : table.closeTag (table.elementAt e) ≡ closing c
+      tag = held e c t .close-tag
+
+      n : ℕ
+      n = common (drop at s) (closing c)
+
+      from-none : g .left ≡ none → r₀ ≡ stepFrom a c at (far (g .gap) (closes (eat (closing c) (drop at s))))
+      from-none q = g .goes ∙ ap (λ (is : Items). stepFrom a c at (far (g .gap) (choose is (closing c) (drop at s)))) q
+
+      ends : g .left ≡ none → Dec (n < length (closing c)) → told s (closed s e far′ at st) slips rows ≡ r₀
+      ends q (yes h) =
+          ap (λ (z : Reading). told s z slips rows) (closed-part e far′ at st (rw tag h))
+          ∙ ap (λ (w : Bytes). halts (max far′ (at + common (drop at s) w))) tag
+          ∙ ap halts (omega (arith, g .far-is))
+          ∙ sym (from-none q ∙ close-choice a c at (g .gap) n (eat (closing c) (drop at s)) (eat-part (closing c) (drop at s) h))
+      ends q (no h) =
+          let u = eat-whole (closing c) (drop at s) (omega arith) in
+          ap (λ (z : Reading). told s z slips rows) (closed-whole e far′ at st (rw tag (omega arith)))
+          ∙ ap (λ (w : Bytes). ended (at + common (drop at s) w) a) tag
+          ∙ ap (λ (j : ℕ). ended (at + j) a) (omega (arith, common-le (drop at s) (closing c)))
+          ∙ sym (from-none q ∙ close-whole a c at (g .gap) (u .0) (eat (closing c) (drop at s)) (u .1))
+
+      go : (is : Items) → T (holdsItems k is) → g .left ≡ is → told s (closed s e far′ at st) slips rows ≡ r₀
+      go none y q = ends q (decLt n (length (closing c)))
+      go (item h d is) y q = absurd (omega (arith, held-row k h d is y .small))
+
+  -- ─── an element ───
+
+  pub element-read : (e at start end : ℕ) (x : Element) (v : Event) (st nx : State) (slips rows slips₁ rows₁ : List ℕ) (o : Reads) → e < 61 → x ≡ table.elementAt e
+      → start ≡ at + (x .close - x .«open») → end ≡ start + span (inRun (x .kind)) (drop start s)
+      → v ≡ event (x .part) (x .kind) at start (end - start)
+      → stepOf s (carry st slips rows) v ≡ carry nx slips₁ rows₁
+      → ((c : Elem) → T (holdsElem e c) → o ≡ kidsFrom (carry nx slips₁ rows₁) c end)
+      → (c : Elem) → T (holdsElem e c) → o ≡ oneAt (carry st slips rows) c at
+  element-read e at start end x v st nx slips rows slips₁ rows₁ o h q u w y k ih c t =
+      let g : Held e c = held e c t in
+      let len : length (opening c) ≡ x .close - x .«open» = ap length (sym (ap table.openTag q ∙ g .open-tag)) ∙ open-length x (placed e x h q) in
+      let here : start ≡ at + length (opening c) = u ∙ ap (λ (j : ℕ). at + j) (sym len) in
+      let kd : x .kind ≡ kind c = ap (λ (y : Element). y .kind) q ∙ g .is-kind in
+      let pt : x .part ≡ part c = ap (λ (y : Element). y .part) q ∙ g .plays in
+      let n : ℕ = span (inRun (kind c)) (drop (at + length (opening c)) s) in
+      let there : end ≡ at + length (opening c) + n = w ∙ ap (λ (K : Kind). start + span (inRun K) (drop start s)) kd ∙ ap (λ (j : ℕ). j + span (inRun (kind c)) (drop j s)) here in
+      let long : end - start ≡ n = omega (arith, there, here) in
+      let ev : v ≡ event (part c) (kind c) at (at + length (opening c)) n =
+      y ∙ ap (λ (p : ℕ). event p (x .kind) at start (end - start)) pt ∙ ap (λ (K : Kind). event (part c) K at start (end - start)) kd
+      ∙ ap (λ (j : ℕ). event (part c) (kind c) at j (end - start)) here ∙ ap (λ (j : ℕ). event (part c) (kind c) at (at + length (opening c)) j) long in
+      ih c t ∙ ap (λ (b : Carried). kidsFrom b c end) (sym k ∙ ap (stepOf s (carry st slips rows)) ev)
+      ∙ ap (λ (j : ℕ). kidsFrom (stepOf s (carry st slips rows) (event (part c) (kind c) at (at + length (opening c)) n)) c j) there
+
+-- ─── what a turn keeps ───
+
+-- read from `from` on with the state st₀ and the tables slips₀ and rows₀, the loop is at the row k and the place `at`, with st, slips and rows
+pub record Kept (s : Bytes) (e from : ℕ) (slips₀ rows₀ : List ℕ) (st₀ : State) (slips rows : List ℕ) (k at far′ : ℕ) (st : State) : Type 0 where
+  pub behind : from ≤ at
+  pub inside : at ≤ length s
+  pub row : k ≤ 62
+  pub bounds : Within at st
+  pub slips-long : length slips ≡ length slips₀
+  pub rows-long : length rows ≡ length rows₀
+  pub going : (c : Elem) → T (holdsElem e c) → Going s (kidsFrom s (carry st₀ slips₀ rows₀) c from) c k at far′ (carry st slips rows)
+
+-- what is fine from a later place is fine from an earlier one
+pub fine-from : (s : Bytes) (p q : ℕ) → p ≤ q → (r : Reading) → Fine s q r → Fine s p r
+fine-from s p q h (Ended n st) w = (omega arith, w .1)
+fine-from s p q h (Stuck n) w = tt
+
+-- a closing tag that was read lies behind its place
+pub closed-fine : (s : Bytes) (e far′ at : ℕ) (st : State) → e < 61 → at ≤ length s → Within at st → Fine s at (closed s e far′ at st)
+unfolding closed
+closed-fine s e far′ at st h l w =
+    let t : Bytes = table.closeTag (table.elementAt e) in
+    let n : ℕ = common (drop at s) t in
+    let p = placed e (table.elementAt e) h refl in
+    go n (ltb n (length t)) (common-in s t at n l refl .0) (λ f. omega (arith, close-length (table.elementAt e) p, ltb-false n (length t) f))
+  where
+    go : (n : ℕ) (z : Bool) → at + n ≤ length s → (z ≡ false → 1 ≤ n) → Fine s at (pick z (Stuck (max far′ (at + n))) (Ended (at + n) st))
+    go n true a b = tt
+    go n false a b = (omega (arith, b refl), (a, within-more at (at + n) st (omega arith) w))
+
+-- the opening tag has room
+pub room-is : (s : Bytes) (e at : ℕ) (st : State) (x : Element) → Ready s e at st → x ≡ table.elementAt e → at + (x .close - x .«open») ≤ length s
+room-is s e at st x r q = subst (λ (y : Element). at + (y .close - y .«open») ≤ length s) (sym q) (r .room)

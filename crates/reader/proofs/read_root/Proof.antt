@@ -1,0 +1,140 @@
+-- `reader::read_root` meets its contract, way by way: the laws of Roots.
+use Rattle.reader.specs.Read.{Answers}
+use Prim.Native.Nat.{_+_, _-_, _≤_}
+use native.Mathlib.Omega.{arith}
+use mathlib.Core.Path.{subst}
+use lib.ListN.{length}
+use Rattle.tree.specs.Form.{white}
+use Rattle.tree.specs.Pain008.{Document}
+use Rattle.step.proofs.Bounds.{within-more}
+use Rattle.table.specs.declared.Element.{Element}
+use Rattle.reader.specs.Told.{Fine}
+use Rattle.scan.proofs.Scans.{common-in, run-in}
+use Rattle.table.proofs.Held.{placed, document-held}
+use Rattle.reader.proofs.Roots.{root-missed, root-lost, root-more, root-done, root-agrees, root-length}
+use borrow.Author.Needs.{needs}
+use Rattle.reader.proofs.read_root.Statement.{statement}
+use Rattle.reader.proofs.read_root.Tie as tie
+
+white-end-requires : tie.Need-white-end-requires
+white-end-requires c κs = search needs
+
+element-at-requires : tie.Need-element-at-requires
+element-at-requires c κs = search needs
+
+opens-requires : tie.Need-opens-requires
+opens-requires c κs =
+    let w = run-in white _ _ _ (c .before .before .before .before .before .pre .1 .0) (c .before .white-end .ensures) in
+    let p = placed 0 _ (omega arith) (c .element-at .ensures) in
+    (w .1, (omega arith, omega arith))
+
+sub-if1 : tie.Need-sub-if1
+sub-if1 c = let p = placed 0 _ (omega arith) (c .before .before .element-at .ensures) in omega arith
+
+add-later : tie.Need-add-later
+add-later c =
+    let w = run-in white _ _ _ (c .before .before .before .before .before .before .before .before .pre .1 .0) (c .before .before .before .before .white-end .ensures) in
+    omega (arith, common-in _ _ _ _ (w .1) (c .before .before .opens .ensures))
+
+later-requires : tie.Need-later-requires
+later-requires c κs = search needs
+
+returns : tie.Need-returns
+unfolding Answers
+returns c =
+    root-missed (c .before .before .before .before .before .before .before .before .before .args .s .now) _ _ _ _ (c .before .before .before .before .before .white-end .ensures) (root-agrees _ (c .before .before .before .before .element-at .ensures) (c .before .before .before .before .before .before .before .before .before .args .s .now) (c .before .before .before .before .before .white-end .result) _ (c .before .before .before .opens .ensures))
+    (omega (arith, root-length _ (c .before .before .before .before .element-at .ensures), c .before .if1 .taken)) _ (c .later .ensures)
+
+read-element-requires : tie.Need-read-element-requires
+read-element-requires c κs =
+    let w = run-in white _ _ _ (c .before .before .before .before .before .before .before .before .before .before .pre .1 .0) (c .before .before .before .before .before .before .white-end .ensures) in
+    let i = common-in _ _ _ _ (w .1) (c .before .before .before .before .opens .ensures) in
+    let l = c .before .before .if1 .left in
+    record {
+      short = c .before .before .before .before .before .before .before .before .before .before .pre .0;
+      known = omega arith;
+      room = subst (λ (x : Element). c .before .before .before .before .before .before .white-end .result + (x .close - x .«open») ≤ length (c .before .before .before .before .before .before .before .before .before .before .args .s .now)) (c .before .before .before .before .before .element-at .ensures) (omega arith);
+      bounds = within-more _ _ _ (omega arith) (c .before .before .before .before .before .before .before .before .before .before .pre .1 .1);
+    }
+
+enum-known-p : tie.Need-enum-known-p
+enum-known-p c = search needs
+
+later-requires-2 : tie.Need-later-requires-2
+later-requires-2 c κs = search needs
+
+enum-known-p-2 : tie.Need-enum-known-p-2
+enum-known-p-2 c = search needs
+
+white-end-requires-2 : tie.Need-white-end-requires-2
+white-end-requires-2 c κs =
+    subst (Fine (c .before .before .before .before .before .before .before .before .before .before .before .before .before .before .before .before .before .before .args .s .now) (c .before .before .before .before .before .before .before .before .before .before .before .before .before .before .white-end .result)) (c .before .p2 .given .1) (c .before .before .before .before .before .before .before .read-element .ensures .0) .1 .0
+
+later-requires-3 : tie.Need-later-requires-3
+later-requires-3 c κs = search needs
+
+same-length : tie.Need-same-length
+same-length c = search needs
+
+same-length-2 : tie.Need-same-length-2
+same-length-2 c = search needs
+
+returns-2 : tie.Need-returns-2
+unfolding Answers
+returns-2 c =
+    root-more (c .before .before .before .before .before .before .before .before .before .before .before .before .before .before .before .before .before .before .before .before .before .args .s .now) _ _ _ _ (c .before .before .before .before .before .before .before .before .before .before .before .before .before .before .before .before .before .white-end .ensures) (root-agrees _ (c .before .before .before .before .before .before .before .before .before .before .before .before .before .before .before .before .element-at .ensures) (c .before .before .before .before .before .before .before .before .before .before .before .before .before .before .before .before .before .before .before .before .before .args .s .now) (c .before .before .before .before .before .before .before .before .before .before .before .before .before .before .before .before .before .white-end .result) _ (c .before .before .before .before .before .before .before .before .before .before .before .before .before .before .before .opens .ensures))
+    (omega (arith, root-length _ (c .before .before .before .before .before .before .before .before .before .before .before .before .before .before .before .before .element-at .ensures), c .before .before .before .before .before .before .before .before .before .before .before .before .before .if1 .left)) _ _ _ _ (c .before .before .before .before .before .before .before .before .before .before .read-element .ensures .1 Document document-held) _ _ _ (c .before .before .before .before .p2 .given .1)
+    (c .before .before .white-end2 .ensures) (c .before .if2 .taken) _ (c .later3 .ensures)
+
+same-length-3 : tie.Need-same-length-3
+same-length-3 c = search needs
+
+same-length-4 : tie.Need-same-length-4
+same-length-4 c = search needs
+
+returns-3 : tie.Need-returns-3
+unfolding Answers
+returns-3 c =
+    root-lost (c .before .before .before .before .before .before .before .before .before .before .before .before .before .before .before .before .before .before .before .args .s .now) _ _ _ _ (c .before .before .before .before .before .before .before .before .before .before .before .before .before .before .before .white-end .ensures) (root-agrees _ (c .before .before .before .before .before .before .before .before .before .before .before .before .before .before .element-at .ensures) (c .before .before .before .before .before .before .before .before .before .before .before .before .before .before .before .before .before .before .before .args .s .now) (c .before .before .before .before .before .before .before .before .before .before .before .before .before .before .before .white-end .result) _ (c .before .before .before .before .before .before .before .before .before .before .before .before .before .opens .ensures))
+    (omega (arith, root-length _ (c .before .before .before .before .before .before .before .before .before .before .before .before .before .before .element-at .ensures), c .before .before .before .before .before .before .before .before .before .before .before .if1 .left)) _ _ _ _ (c .before .before .before .before .before .before .before .before .read-element .ensures .1 Document document-held) _ (c .before .before .p .given .1)
+    _ (c .later2 .ensures)
+
+same-length-5 : tie.Need-same-length-5
+same-length-5 c = search needs
+
+same-length-6 : tie.Need-same-length-6
+same-length-6 c = search needs
+
+returns-4 : tie.Need-returns-4
+unfolding Answers
+returns-4 c =
+    root-done (c .before .before .before .before .before .before .before .before .before .before .before .before .before .before .before .before .before .before .before .before .args .s .now) _ _ _ _ (c .before .before .before .before .before .before .before .before .before .before .before .before .before .before .before .before .white-end .ensures) (root-agrees _ (c .before .before .before .before .before .before .before .before .before .before .before .before .before .before .before .element-at .ensures) (c .before .before .before .before .before .before .before .before .before .before .before .before .before .before .before .before .before .before .before .before .args .s .now) (c .before .before .before .before .before .before .before .before .before .before .before .before .before .before .before .before .white-end .result) _ (c .before .before .before .before .before .before .before .before .before .before .before .before .before .before .opens .ensures))
+    (omega (arith, root-length _ (c .before .before .before .before .before .before .before .before .before .before .before .before .before .before .before .element-at .ensures), c .before .before .before .before .before .before .before .before .before .before .before .before .if1 .left)) _ _ _ _ (c .before .before .before .before .before .before .before .before .before .read-element .ensures .1 Document document-held) _ _ _ (c .before .before .before .p2 .given .1)
+    (c .before .white-end2 .ensures) (c .if2 .left)
+
+pub read-root-spec : {M : Type 1} → statement M
+read-root-spec =
+    tie.close
+    (tie.spec
+    white-end-requires
+    element-at-requires
+    opens-requires
+    sub-if1
+    add-later
+    later-requires
+    returns
+    read-element-requires
+    enum-known-p
+    later-requires-2
+    enum-known-p-2
+    white-end-requires-2
+    later-requires-3
+    same-length
+    same-length-2
+    returns-2
+    same-length-3
+    same-length-4
+    returns-3
+    same-length-5
+    same-length-6
+    returns-4)

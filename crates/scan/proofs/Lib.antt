@@ -1,0 +1,2 @@
+-- Scans   what the leaves find
+pub mod Scans

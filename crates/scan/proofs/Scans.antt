@@ -1,0 +1,77 @@
+-- WHAT THE LEAVES FIND: `common` at a place of the whole, and the classes of a run.
+--   common-go, common-miss, common-out, common-whole   a loop that holds a word against the bytes at a place
+--   white-last, text-no, text-yes                      a byte of a run
+--   run-in                                             a run ends at or behind its place, and within the message
+--   common-le, common-in                               no more agrees than there is
+use Prim.Native.Nat.{ℕ, zero, suc, _+_, _≤_, _<_, zero-le}
+use native.Mathlib.Nat.{le-of-suc-le-suc}
+use native.Mathlib.Numerals.{add-one}
+use native.Mathlib.Omega.{arith}
+use mathlib.Core.Bool.{Bool, true, false, not}
+use mathlib.Core.List.{[], _∷_, _++_}
+use mathlib.Core.Path.{_≡_, refl, sym, ap, _∙_}
+use mathlib.Core.Logic.{_≢_}
+use lib.Dec.{eqb}
+use lib.ListN.{length, getD, take, drop, drop-of-length-le, length-drop}
+use borrow.Author.Tests.{eq-eqb, ne-eqb}
+use Rattle.laws.specs.Bytes.{Bytes, span}
+use Rattle.laws.proofs.Tests.{eqb-cases}
+use Rattle.laws.proofs.Loops.{drop-step, span-le}
+use Rattle.tree.specs.Form.{white, inText, common}
+use Rattle.tree.specs.Tags.{Eat, ate, miss, eat}
+
+-- ─── common ───
+
+common-yes : (a b : ℕ) (s w : Bytes) → a ≡ b → common (a ∷ s) (b ∷ w) ≡ suc (common s w)
+common-yes a b s w e = rw (eq-eqb a b e, common)
+
+common-no : (a b : ℕ) (s w : Bytes) → a ≢ b → common (a ∷ s) (b ∷ w) ≡ 0
+common-no a b s w e = rw (ne-eqb a b e, common)
+
+common-nil : (s : Bytes) → common s [] ≡ 0
+common-nil [] = refl
+common-nil (a ∷ s) = refl
+
+module _ (s w : Bytes) (at i : ℕ) where
+  pub common-go : at + i < length s → i < length w → getD s (at + i) 0 ≡ getD w i 0
+      → i + common (drop (at + i) s) (drop i w) ≡ i + 1 + common (drop (at + (i + 1)) s) (drop (i + 1) w)
+  common-go h k e =
+      let p : at + i + 1 ≡ at + (i + 1) = omega arith in
+      rw (drop-step s (at + i) h, drop-step w i k, common-yes (getD s (at + i) 0) (getD w i 0) (drop (at + i + 1) s) (drop (i + 1) w) e, p) (omega arith)
+
+  pub common-miss : at + i < length s → i < length w → getD s (at + i) 0 ≢ getD w i 0 → common (drop (at + i) s) (drop i w) ≡ 0
+  common-miss h k e = rw (drop-step s (at + i) h, drop-step w i k, common-no (getD s (at + i) 0) (getD w i 0) (drop (at + i + 1) s) (drop (i + 1) w) e)
+
+  pub common-out : length s ≤ at + i → common (drop (at + i) s) (drop i w) ≡ 0
+  common-out h = rw (drop-of-length-le s h)
+
+  pub common-whole : length w ≤ i → common (drop (at + i) s) (drop i w) ≡ 0
+  common-whole h = rw (drop-of-length-le w h) (common-nil (drop (at + i) s))
+
+-- ─── runs ───
+
+pub white-last : (c : ℕ) → (c ≡ 32 → ⊥) → (c ≡ 9 → ⊥) → (c ≡ 13 → ⊥) → eqb c 10 ≡ white c
+white-last c a b d = rw (ne-eqb c 32 a, ne-eqb c 9 b, ne-eqb c 13 d)
+
+pub text-no : (c : ℕ) → c ≡ 60 → inText c ≡ false
+text-no c e = rw (eq-eqb c 60 e)
+
+pub text-yes : (c : ℕ) → (c ≡ 60 → ⊥) → inText c ≡ true
+text-yes c e = rw (ne-eqb c 60 e)
+
+pub run-in : (p : ℕ → Bool) (s : Bytes) (at q : ℕ) → at ≤ length s → q ≡ at + span p (drop at s) → (at ≤ q) × (q ≤ length s)
+run-in p s at q h e = omega (arith, span-le p (drop at s), length-drop at s)
+
+-- ─── eat ───
+
+pub common-le : (s w : Bytes) → (common s w ≤ length s) × (common s w ≤ length w)
+common-le [] w = (zero-le, zero-le)
+common-le (a ∷ s) [] = (zero-le, zero-le)
+common-le (a ∷ s) (b ∷ w) =
+    let h = common-le s w in
+    eqb-cases (λ z. let n : ℕ = elim z [ true ↦ suc (common s w) | false ↦ 0 ] in (n ≤ suc (length s)) × (n ≤ suc (length w))) a b
+    (λ e. (omega arith, omega arith)) (λ e. (zero-le, zero-le))
+
+-- a word that agrees at a place does so within the message
+pub common-in : (s w : Bytes) (at n : ℕ) → at ≤ length s → n ≡ common (drop at s) w → (at + n ≤ length s) × (n ≤ length w)
+common-in s w at n h e = omega (arith, common-le (drop at s) w, length-drop at s)

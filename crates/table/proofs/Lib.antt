@@ -1,0 +1,2 @@
+-- Held   the tables hold the profile tree
+pub mod Held
