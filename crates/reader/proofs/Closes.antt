@@ -10,11 +10,11 @@ use Rattle.tree.specs.Form.{common}
 use Rattle.step.specs.declared.State.{State}
 use Rattle.table.specs.declared.Element.{Element}
 use Rattle.reader.specs.declared.walk.Reading.the-variants.{Ended, Stuck}
-use Rattle.table.specs.Table.{elementAt, closeTag}
+use Rattle.table.specs.Table.{elementCount, elementAt, closeTag}
 use Rattle.reader.specs.Told.{closed, pick}
 use Rattle.table.proofs.Held.{Placed, placed, close-length}
 
-module _ (s : Bytes) (e far at : ℕ) (st : State) (x : Element) (n : ℕ) (h : e < 61) (q : x ≡ elementAt e) (c : n ≡ common (drop at s) (closeTag x)) where
+module _ (s : Bytes) (e far at : ℕ) (st : State) (x : Element) (n : ℕ) (h : e < elementCount) (q : x ≡ elementAt e) (c : n ≡ common (drop at s) (closeTag x)) where
   len : length (closeTag (elementAt e)) ≡ x .end - x .close
   len = ap (λ (y : Element). length (closeTag y)) (sym q) ∙ close-length x (placed e x h q)
 

@@ -137,7 +137,7 @@ module _ (s : Bytes) where
   }
 
   -- at the row k, whose element is tried at `at`
-  module _ (r₀ : Reads) (c : Elem) (k at far′ : ℕ) (a : Carried) (r : Row) (y : Element) (n : ℕ) (small : k < 62) (q : r ≡ table.rowAt k) (w : y ≡ table.elementAt (r .element))
+  module _ (r₀ : Reads) (c : Elem) (k at far′ : ℕ) (a : Carried) (r : Row) (y : Element) (n : ℕ) (small : k < table.rowsEnd) (q : r ≡ table.rowAt k) (w : y ≡ table.elementAt (r .element))
       (o : n ≡ common (drop at s) (table.openTag y)) where
     -- what the rows hold there
     pub record Tried (g : Going r₀ c k at far′ a) : Type 0 where
@@ -256,7 +256,7 @@ module _ (s : Bytes) where
   unfolding closed
   closed-whole e far′ at st l = rw (le-ltb _ _ l)
 
-  pub going-close : (r₀ : Reads) (e : ℕ) (c : Elem) (k at far′ : ℕ) (st : State) (slips rows : List ℕ) → T (holdsElem e c) → 62 ≤ k
+  pub going-close : (r₀ : Reads) (e : ℕ) (c : Elem) (k at far′ : ℕ) (st : State) (slips rows : List ℕ) → T (holdsElem e c) → table.rowsEnd ≤ k
       → Going r₀ c k at far′ (carry st slips rows) → told s (closed s e far′ at st) slips rows ≡ r₀
   going-close r₀ e c k at far′ st slips rows t l g = go (g .left) (g .hold) refl
     where
@@ -291,7 +291,7 @@ module _ (s : Bytes) where
 
   -- ─── an element ───
 
-  pub element-read : (e at start end : ℕ) (x : Element) (v : Event) (st nx : State) (slips rows slips₁ rows₁ : List ℕ) (o : Reads) → e < 61 → x ≡ table.elementAt e
+  pub element-read : (e at start end : ℕ) (x : Element) (v : Event) (st nx : State) (slips rows slips₁ rows₁ : List ℕ) (o : Reads) → e < table.elementCount → x ≡ table.elementAt e
       → start ≡ at + (x .close - x .«open») → end ≡ start + span (inRun (x .kind)) (drop start s)
       → v ≡ event (x .part) (x .kind) at start (end - start)
       → stepOf s (carry st slips rows) v ≡ carry nx slips₁ rows₁
@@ -318,7 +318,7 @@ module _ (s : Bytes) where
 pub record Kept (s : Bytes) (e from : ℕ) (slips₀ rows₀ : List ℕ) (st₀ : State) (slips rows : List ℕ) (k at far′ : ℕ) (st : State) : Type 0 where
   pub behind : from ≤ at
   pub inside : at ≤ length s
-  pub row : k ≤ 62
+  pub row : k ≤ table.rowsEnd
   pub bounds : Within at st
   pub slips-long : length slips ≡ length slips₀
   pub rows-long : length rows ≡ length rows₀
@@ -330,7 +330,7 @@ fine-from s p q h (Ended n st) w = (omega arith, w .1)
 fine-from s p q h (Stuck n) w = tt
 
 -- a closing tag that was read lies behind its place
-pub closed-fine : (s : Bytes) (e far′ at : ℕ) (st : State) → e < 61 → at ≤ length s → Within at st → Fine s at (closed s e far′ at st)
+pub closed-fine : (s : Bytes) (e far′ at : ℕ) (st : State) → e < table.elementCount → at ≤ length s → Within at st → Fine s at (closed s e far′ at st)
 unfolding closed
 closed-fine s e far′ at st h l w =
     let t : Bytes = table.closeTag (table.elementAt e) in

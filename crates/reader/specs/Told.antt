@@ -35,13 +35,13 @@ closed s e far at st =
 -- the element e is one of the tables', and its opening tag has room at `at`
 pub record Ready (s : Bytes) (e at : ℕ) (st : State) : Type 0 where
   pub short : length s ≤ mostBytes
-  pub known : e < 61
+  pub known : e < table.elementCount
   pub room : at + (table.elementAt e .close - table.elementAt e .«open») ≤ length s
   pub bounds : Within at st
 
 pub record ReadyKids (s : Bytes) (e from : ℕ) (st : State) : Type 0 where
   pub short : length s ≤ mostBytes
-  pub known : e < 61
+  pub known : e < table.elementCount
   pub room : from ≤ length s
   pub bounds : Within from st
 

@@ -5,6 +5,7 @@ ghost use lib.Dec.{T};
 ghost use lib.ListN.{length};
 ghost use Rattle.tree.specs.Form.{Elem, items};
 ghost use Rattle.step.specs.Step.{Carried, stepOf};
+ghost use Rattle.table.specs.Table.{elementCount};
 ghost use Rattle.table.specs.Held.{holdsElem};
 ghost use Rattle.reader.specs.Walk.{childrenAt, elementAt};
 ghost use Rattle.reader.specs.Told.{told, closed, Ready, ReadyKids, Fine};
@@ -21,7 +22,7 @@ pub enum Reading {
 
 // The closing tag of an element. `far` is how far another tag agreed that might have stood here.
 pub fn read_close(s: &[u8], e: usize, far: usize, at: usize, state: State) -> Reading
-    requires { ⌜ (e < 61) × (at ≤ length (now s)) ⌝ }
+    requires { ⌜ (e < elementCount) × (at ≤ length (now s)) ⌝ }
     ensures { λ r. ⌜ r ≡ closed (now (s .entry)) e far at state ⌝ }
 {
     let x = table::element_at(e);

@@ -21,7 +21,7 @@ use Rattle.tree.specs.declared.Kind.{Kind}
 use Rattle.tree.specs.declared.Kind.the-variants.{Holds, Text}
 use Rattle.tree.specs.Form.{How, Elem, Items, elem, none, item, once, maybe, atMostTwo, any, oneOrMore, thisOrNext, part, kind, items, opening, closing, skips, after, tail}
 use Rattle.tree.specs.Pain008.{Document}
-use Rattle.table.specs.Table.{elements, rows, end, tags, count, kindIn, kindNumber, ruleNumber, elementAt, rowAt, openTag, closeTag, kindOf}
+use Rattle.table.specs.Table.{elementCount, rowsEnd, tagBytes, elements, rows, end, tags, count, kindIn, kindNumber, ruleNumber, elementAt, rowAt, openTag, closeTag, kindOf}
 use Rattle.table.specs.declared.Element.{Element}
 use Rattle.table.specs.declared.Row.{Row}
 use Rattle.table.specs.Held.{holdsElem, holdsItems, skipping, lasting, tagged, again, onceFirst}
@@ -30,9 +30,9 @@ pub document-held : T (holdsElem 0 Document)
 unfolding elements rows end tags count kindIn elementAt rowAt openTag closeTag kindOf
 document-held = tt
 
-pub kind-small : (e : ℕ) → e < 61 → getD (getD elements e []) 1 0 < 19
+pub kind-small : (e : ℕ) → e < elementCount → getD (getD elements e []) 1 0 < 19
 unfolding elements end
-kind-small e h = ltb→lt (getD (getD elements e []) 1 0) 19 (below 61 (λ i. ltb (getD (getD elements i []) 1 0) 19) tt e h)
+kind-small e h = ltb→lt (getD (getD elements e []) 1 0) 19 (below elementCount (λ i. ltb (getD (getD elements i []) 1 0) 19) tt e h)
 
 -- ─── an element ───
 
@@ -66,26 +66,26 @@ kind-in : (i : ℕ) → elementAt i .kind ≡ kindOf (kindIn i)
 unfolding elementAt kindIn
 kind-in i = refl
 
-count-is : count ≡ 61
+count-is : count ≡ elementCount
 unfolding count
 count-is = refl
 
-end-is : end ≡ 62
+end-is : end ≡ rowsEnd
 unfolding end
 end-is = refl
 
-tags-are : length tags ≡ 1132
+tags-are : length tags ≡ tagBytes
 unfolding tags
 tags-are = refl
 
 -- the tables hold e at the number i
 pub record Held (i : ℕ) (e : Elem) : Type 0 where
-  pub small : i < 61
+  pub small : i < elementCount
   pub plays : elementAt i .part ≡ part e
   pub is-kind : elementAt i .kind ≡ kind e
   pub opens : elementAt i .«open» ≤ elementAt i .close
   pub closes : elementAt i .close ≤ elementAt i .end
-  pub ends : elementAt i .end ≤ 1132
+  pub ends : elementAt i .end ≤ tagBytes
   pub open-tag : openTag (elementAt i) ≡ opening e
   pub close-tag : closeTag (elementAt i) ≡ closing e
   pub below : T (holdsItems (elementAt i .first) (items e))
@@ -123,13 +123,13 @@ held i (elem p nm at k is) t =
 
 -- the rows from k on hold the items `item h e is`
 pub record HeldRow (k : ℕ) (h : How) (e : Elem) (is : Items) : Type 0 where
-  pub small : k < 62
+  pub small : k < rowsEnd
   pub child : T (holdsElem (rowAt k .element) e)
   pub next : T (holdsItems (rowAt k .next) (after h e is))
   pub other : T (skips h) → (k < rowAt k .other) × T (holdsItems (rowAt k .other) is)
   pub last : T (not (skips h)) → rowAt k .other ≤ k
 
-row-small : (k : ℕ) → T (ltb k end) → k < 62
+row-small : (k : ℕ) → T (ltb k end) → k < rowsEnd
 row-small k t = rw end-is at (ltb→lt k end t)
 
 -- the other one of a choice, and what follows both
@@ -207,7 +207,7 @@ held-row k thisOrNext e is t =
     (λ o r. choice-next k (rowAt k .other) is o (and-l (onceFirst is) q r) (eqb→eq (rowAt k .next) (rowAt (rowAt k .other) .next) (and-r (onceFirst is) q r)))
 
 -- where no item is left, the row is the end
-pub held-none : (k : ℕ) → T (holdsItems k none) → k ≡ 62
+pub held-none : (k : ℕ) → T (holdsItems k none) → k ≡ rowsEnd
 held-none k t = eqb→eq k end t ∙ end-is
 
 -- ─── of every number ───
@@ -216,55 +216,55 @@ held-none k t = eqb→eq k end t ∙ end-is
 pub record Placed (x : Element) : Type 0 where
   pub opens : x .«open» < x .close
   pub closes : x .close < x .end
-  pub ends : x .end ≤ 1132
-  pub starts : x .first ≤ 62
+  pub ends : x .end ≤ tagBytes
+  pub starts : x .first ≤ rowsEnd
 
 placed-test : ℕ → Bool
 placed-test i =
     let x = elementAt i in
-    ltb (x .«open») (x .close) && (ltb (x .close) (x .end) && (leb (x .end) 1132 && leb (x .first) 62))
+    ltb (x .«open») (x .close) && (ltb (x .close) (x .end) && (leb (x .end) tagBytes && leb (x .first) rowsEnd))
 
-placed-every : T (every 61 placed-test)
+placed-every : T (every elementCount placed-test)
 unfolding placed-test elements end elementAt kindOf
 placed-every = tt
 
-pub placed : (i : ℕ) (x : Element) → i < 61 → x ≡ elementAt i → Placed x
+pub placed : (i : ℕ) (x : Element) → i < elementCount → x ≡ elementAt i → Placed x
 unfolding placed-test
 placed i x h e =
     let y = elementAt i in
-    let t : T (placed-test i) = below 61 placed-test placed-every i h in
-    let t₂ : T (ltb (y .close) (y .end) && (leb (y .end) 1132 && leb (y .first) 62)) = and-r (ltb (y .«open») (y .close)) _ t in
-    let t₃ : T (leb (y .end) 1132 && leb (y .first) 62) = and-r (ltb (y .close) (y .end)) _ t₂ in
+    let t : T (placed-test i) = below elementCount placed-test placed-every i h in
+    let t₂ : T (ltb (y .close) (y .end) && (leb (y .end) tagBytes && leb (y .first) rowsEnd)) = and-r (ltb (y .«open») (y .close)) _ t in
+    let t₃ : T (leb (y .end) tagBytes && leb (y .first) rowsEnd) = and-r (ltb (y .close) (y .end)) _ t₂ in
     rw e (record {
       opens = ltb→lt (y .«open») (y .close) (and-l (ltb (y .«open») (y .close)) _ t);
       closes = ltb→lt (y .close) (y .end) (and-l (ltb (y .close) (y .end)) _ t₂);
-      ends = leb→le (y .end) 1132 (and-l (leb (y .end) 1132) _ t₃);
-      starts = leb→le (y .first) 62 (and-r (leb (y .end) 1132) _ t₃);
+      ends = leb→le (y .end) tagBytes (and-l (leb (y .end) tagBytes) _ t₃);
+      starts = leb→le (y .first) rowsEnd (and-r (leb (y .end) tagBytes) _ t₃);
     })
 
 -- a row of the tables has an element, and the rows behind it
 pub record Led (r : Row) : Type 0 where
-  pub child : r .element < 61
-  pub next : r .next ≤ 62
-  pub other : r .other ≤ 62
+  pub child : r .element < elementCount
+  pub next : r .next ≤ rowsEnd
+  pub other : r .other ≤ rowsEnd
 
 led-test : ℕ → Bool
-led-test k = let r = rowAt k in ltb (r .element) 61 && (leb (r .next) 62 && leb (r .other) 62)
+led-test k = let r = rowAt k in ltb (r .element) elementCount && (leb (r .next) rowsEnd && leb (r .other) rowsEnd)
 
-led-every : T (every 62 led-test)
+led-every : T (every rowsEnd led-test)
 unfolding led-test rows end rowAt
 led-every = tt
 
-pub led : (k : ℕ) (r : Row) → k < 62 → r ≡ rowAt k → Led r
+pub led : (k : ℕ) (r : Row) → k < rowsEnd → r ≡ rowAt k → Led r
 unfolding led-test
 led k r h e =
     let q = rowAt k in
-    let t : T (led-test k) = below 62 led-test led-every k h in
-    let t₂ : T (leb (q .next) 62 && leb (q .other) 62) = and-r (ltb (q .element) 61) _ t in
+    let t : T (led-test k) = below rowsEnd led-test led-every k h in
+    let t₂ : T (leb (q .next) rowsEnd && leb (q .other) rowsEnd) = and-r (ltb (q .element) elementCount) _ t in
     rw e (record {
-      child = ltb→lt (q .element) 61 (and-l (ltb (q .element) 61) _ t);
-      next = leb→le (q .next) 62 (and-l (leb (q .next) 62) _ t₂);
-      other = leb→le (q .other) 62 (and-r (leb (q .next) 62) _ t₂);
+      child = ltb→lt (q .element) elementCount (and-l (ltb (q .element) elementCount) _ t);
+      next = leb→le (q .next) rowsEnd (and-l (leb (q .next) rowsEnd) _ t₂);
+      other = leb→le (q .other) rowsEnd (and-r (leb (q .next) rowsEnd) _ t₂);
     })
 
 -- the lengths of the tags

@@ -1,4 +1,5 @@
 -- THE TABLES OF A DESCRIPTION, worked out from it: what the constants of src/lib.rt must be. That they hold the description is the test `holdsElem`.
+--   elementCount, rowsEnd, tagBytes   the sizes of the tables
 --   flat e                 the element and all below it, in the order of their opening tags
 --   tags, elements, rows   the tables of the profile tree
 --   openTag x, closeTag x  the tags of a table's element
@@ -18,6 +19,17 @@ use Rattle.tree.specs.Form.{How, Elem, Items, elem, none, item, once, maybe, at
 use Rattle.tree.specs.Pain008.{Document}
 use Rattle.table.specs.declared.Element.{Element}
 use Rattle.table.specs.declared.Row.{Row}
+
+-- ─── 0. The sizes of the tables, once; that they are those of the tables worked out below is proofs/Held ───
+
+abbrev pub elementCount : ℕ
+elementCount = 61
+
+abbrev pub rowsEnd : ℕ
+rowsEnd = 62
+
+abbrev pub tagBytes : ℕ
+tagBytes = 1_132
 
 -- ─── 1. Kinds by number ───
 

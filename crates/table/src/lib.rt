@@ -3,7 +3,7 @@ ghost use mathlib.Core.Path.{_≡_};
 ghost use Prim.Native.Nat.{_≤_, _<_};
 ghost use lib.ListN.{length, drop};
 ghost use Rattle.tree.specs.Form.{common};
-ghost use Rattle.table.specs.Table.{elementAt, rowAt, kindOf, openTag, closeTag};
+ghost use Rattle.table.specs.Table.{elementCount, rowsEnd, tagBytes, elementAt, rowAt, kindOf, openTag, closeTag};
 use text::Rule;
 use tree::Kind;
 
@@ -194,37 +194,46 @@ pub fn kind_of(n: usize) -> Kind
 
 // The element with a number.
 pub fn element_at(e: usize) -> Element
-    requires { ⌜ e < 61 ⌝ }
+    requires { ⌜ e < elementCount ⌝ }
     ensures { λ r. ⌜ r ≡ elementAt e ⌝ }
 {
     let x = ELEMENTS[e];
-    let kind = kind_of(x[1]);
+    let part = x[0];
+    let number = x[1];
+    let kind = kind_of(number);
+    let first = x[2];
+    let open = x[3];
+    let close = x[4];
+    let end = x[5];
     Element {
-        part: x[0],
+        part,
         kind,
-        first: x[2],
-        open: x[3],
-        close: x[4],
-        end: x[5],
+        first,
+        open,
+        close,
+        end,
     }
 }
 
 // The row with a number.
 pub fn row_at(k: usize) -> Row
-    requires { ⌜ k < 62 ⌝ }
+    requires { ⌜ k < rowsEnd ⌝ }
     ensures { λ r. ⌜ r ≡ rowAt k ⌝ }
 {
     let x = ROWS[k];
+    let element = x[0];
+    let next = x[1];
+    let other = x[2];
     Row {
-        element: x[0],
-        next: x[1],
-        other: x[2],
+        element,
+        next,
+        other,
     }
 }
 
 // How many bytes of an element's opening tag stand at a place.
 pub fn opens(s: &[u8], at: usize, e: Element) -> usize
-    requires { ⌜ (at ≤ length (now s)) × ((e .«open» ≤ e .close) × (e .close ≤ 1132)) ⌝ }
+    requires { ⌜ (at ≤ length (now s)) × ((e .«open» ≤ e .close) × (e .close ≤ tagBytes)) ⌝ }
     ensures { λ r. ⌜ r ≡ common (drop at (now (s .entry))) (openTag e) ⌝ }
 {
     let from = e.open;
@@ -234,7 +243,7 @@ pub fn opens(s: &[u8], at: usize, e: Element) -> usize
 
 // How many bytes of its closing tag.
 pub fn closes(s: &[u8], at: usize, e: Element) -> usize
-    requires { ⌜ (at ≤ length (now s)) × ((e .close ≤ e .end) × (e .end ≤ 1132)) ⌝ }
+    requires { ⌜ (at ≤ length (now s)) × ((e .close ≤ e .end) × (e .end ≤ tagBytes)) ⌝ }
     ensures { λ r. ⌜ r ≡ common (drop at (now (s .entry))) (closeTag e) ⌝ }
 {
     let from = e.close;

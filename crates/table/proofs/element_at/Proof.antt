@@ -1,6 +1,6 @@
 -- `table::element_at` meets its contract: the constant table is the one worked out from the tree.
-use Rattle.table.proofs.Held.{kind-small}
 use Rattle.table.specs.Table.{elements, elementAt, end}
+use Rattle.table.proofs.Held.{kind-small}
 use borrow.Author.Needs.{needs}
 use Rattle.table.proofs.element_at.Statement.{statement}
 use Rattle.table.proofs.element_at.Tie as tie
@@ -11,27 +11,27 @@ mul-x c = search needs
 array-copy-out-x : tie.Need-array-copy-out-x
 array-copy-out-x c = search needs
 
-array-read-kind-of : tie.Need-array-read-kind-of
-array-read-kind-of c = search needs
+array-read-part : tie.Need-array-read-part
+array-read-part c = search needs
+
+array-read-number : tie.Need-array-read-number
+array-read-number c = search needs
 
 kind-of-requires : tie.Need-kind-of-requires
 unfolding elements end
 kind-of-requires c κs = kind-small (c .before .args .e) (search needs)
 
-array-read-t66 : tie.Need-array-read-t66
-array-read-t66 c = search needs
+array-read-first : tie.Need-array-read-first
+array-read-first c = search needs
 
-array-read-t76 : tie.Need-array-read-t76
-array-read-t76 c = search needs
+array-read-open : tie.Need-array-read-open
+array-read-open c = search needs
 
-array-read-t79 : tie.Need-array-read-t79
-array-read-t79 c = search needs
+array-read-close : tie.Need-array-read-close
+array-read-close c = search needs
 
-array-read-t82 : tie.Need-array-read-t82
-array-read-t82 c = search needs
-
-array-read-t85 : tie.Need-array-read-t85
-array-read-t85 c = search needs
+array-read-end : tie.Need-array-read-end
+array-read-end c = search needs
 
 returns : tie.Need-returns
 unfolding elements elementAt end
@@ -43,11 +43,11 @@ element-at-spec =
     (tie.spec
     mul-x
     array-copy-out-x
-    array-read-kind-of
+    array-read-part
+    array-read-number
     kind-of-requires
-    array-read-t66
-    array-read-t76
-    array-read-t79
-    array-read-t82
-    array-read-t85
+    array-read-first
+    array-read-open
+    array-read-close
+    array-read-end
     returns)

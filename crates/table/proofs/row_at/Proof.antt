@@ -11,14 +11,14 @@ mul-x c = search needs
 array-copy-out-x : tie.Need-array-copy-out-x
 array-copy-out-x c = search needs
 
-array-read-t66 : tie.Need-array-read-t66
-array-read-t66 c = search needs
+array-read-element : tie.Need-array-read-element
+array-read-element c = search needs
 
-array-read-t74 : tie.Need-array-read-t74
-array-read-t74 c = search needs
+array-read-next : tie.Need-array-read-next
+array-read-next c = search needs
 
-array-read-t77 : tie.Need-array-read-t77
-array-read-t77 c = search needs
+array-read-other : tie.Need-array-read-other
+array-read-other c = search needs
 
 returns : tie.Need-returns
 unfolding rows rowAt end
@@ -27,4 +27,4 @@ returns c = refl
 pub row-at-spec : {M : Type 1} → statement M
 row-at-spec =
     tie.close
-    (tie.spec mul-x array-copy-out-x array-read-t66 array-read-t74 array-read-t77 returns)
+    (tie.spec mul-x array-copy-out-x array-read-element array-read-next array-read-other returns)

@@ -12,6 +12,7 @@ use Rattle.reader.specs.declared.walk.Reading.{Reading}
 use Rattle.table.specs.declared.Element.{Element}
 use Rattle.reader.specs.Told.{told, Fine, closed}
 use Rattle.scan.proofs.Scans.{common-in, run-in}
+use Rattle.table.specs.Table.{rowsEnd}
 use Rattle.table.proofs.Held.{placed, led}
 use Rattle.reader.proofs.Going.{Kept, room-is, going-start, going-skip, going-stuck, going-child, going-lost, going-close, element-read, fine-from, closed-fine}
 use borrow.Fn.Kinds.{In}
@@ -98,7 +99,7 @@ abbrev read-children-Inv-loop : read-children-lts.InvT-loop
 read-children-Inv-loop s e from slips₀ rows₀ k₀ at₀ far₀ st₀ slips rows k at far st = Kept s e from slips₀ rows₀ st₀ slips rows k at far st
 
 abbrev read-children-μ-loop : read-children-lts.MeasureT-loop
-read-children-μ-loop s e from slips₀ rows₀ k₀ at₀ far₀ st₀ slips rows k at far st = (length s - at) * 64 + (62 - k)
+read-children-μ-loop s e from slips₀ rows₀ k₀ at₀ far₀ st₀ slips rows k at far st = (length s - at) * (rowsEnd + 2) + (rowsEnd - k)
 
 -- a child was read: it ends behind its place and within the message
 child-read : (t : ℕ) (c : read-children-lts.After-p2 (read-children-calls t) (read-children-at t) read-children.Post read-children-Inv-loop read-children-μ-loop)
