@@ -1,0 +1,166 @@
+-- WITH TABLES LONG ENOUGH, THE STAGES ACCEPT exactly where what the message says is in the profile and every declaration agrees.
+--   first-none          the first of a list is none exactly where all are
+--   accepts             in the profile, and all agree: accepted, with the exact totals
+--   accepted-only       accepted: in the profile, and all agree
+use Prim.Native.Nat.{ℕ, zero, suc, _*_, _≤_, zero-le, suc-le-suc}
+use native.Mathlib.Nat.{not-suc-le-zero, le-of-suc-le-suc}
+use native.Mathlib.Omega.{arith}
+use mathlib.Core.Bool.{Bool, true, false}
+use mathlib.Core.List.{List, [], _∷_, map}
+use mathlib.Core.Option.{Option, none, some}
+use mathlib.Core.Path.{_≡_, refl, ap, sym, subst, _∙_}
+use borrow.Author.Tests.{eq-eqb, eqb-true, le-leb, leb-true}
+use lib.Dec.{T, eqb, leb}
+use lib.ListN.{length}
+use Rattle.laws.specs.Lists.{total, All}
+use Rattle.profile.specs.Limits.{mostBatches, mostTransactions}
+use Rattle.profile.specs.declared.Refusal.{Refusal}
+use Rattle.profile.specs.declared.Refusal.the-variants.{TooManyBatches, TooManyTransactions, Text, BatchCount, BatchSum, MessageCount, MessageSum, SlipsTooShort, BatchesTooShort}
+use Rattle.profile.specs.declared.Totals.{Totals}
+use Rattle.text.specs.declared.Judged.{Judged}
+use Rattle.text.specs.declared.Judged.the-variants.{Good, Bad}
+use Rattle.text.specs.Rules.{good}
+use Rattle.tree.specs.Parts as part
+use Rattle.message.specs.declared.Told.{Told}
+use Rattle.message.specs.Message.{Batch, all, the, batchesOf, worth, count, sum}
+use Rattle.message.specs.Verdict.{Room, Verdict, accepted, refused, verdict, at, first, orElse, unless, placeAfter, broken, firstBroken, differs, batchFault, stages, totalsOf, verdictOf}
+use Rattle.checking.specs.Demand2.{Agrees, AllAgree, InProfile, Enough}
+
+-- ─── none found ───
+
+Nones : List (Option Refusal) → Type 0
+Nones l = All (λ o. o ≡ none) l
+
+or-l : (a b : Option Refusal) → orElse a b ≡ none → a ≡ none
+or-l none b e = refl
+or-l (some x) b e = e
+
+or-r : (a b : Option Refusal) → orElse a b ≡ none → b ≡ none
+or-r none b e = e
+or-r (some x) b e = absurd (let z : _≡_ {A = ℕ} 0 1 = cc in omega arith)
+
+first-none : (l : List (Option Refusal)) → Nones l → first l ≡ none
+unfolding Nones
+first-none [] h = refl
+first-none (o ∷ l) h = rw (h .0) (first-none l (h .1))
+
+none-first : (l : List (Option Refusal)) → first l ≡ none → Nones l
+unfolding Nones
+none-first [] e = tt
+none-first (o ∷ l) e = (or-l o (first l) e, none-first l (or-r o (first l) e))
+
+at-none : (f : ℕ → Refusal) (o : Option ℕ) → at f o ≡ none → o ≡ none
+at-none f none e = refl
+at-none f (some p) e = absurd (let z : _≡_ {A = ℕ} 0 1 = cc in omega arith)
+
+at-is-none : (f : ℕ → Refusal) (o : Option ℕ) → o ≡ none → at f o ≡ none
+at-is-none f o e = rw e refl
+
+-- ─── stage by stage ───
+
+after-within : (k : ℕ) (ts : List Told) → placeAfter k ts ≡ none → length ts ≤ k
+after-within k [] e = zero-le
+after-within zero (t ∷ ts) e = absurd (let z : _≡_ {A = ℕ} 0 1 = cc in omega arith)
+after-within (suc k) (t ∷ ts) e = suc-le-suc (after-within k ts e)
+
+within-after : (k : ℕ) (ts : List Told) → length ts ≤ k → placeAfter k ts ≡ none
+within-after k [] h = refl
+within-after zero (t ∷ ts) h = absurd (not-suc-le-zero h)
+within-after (suc k) (t ∷ ts) h = within-after k ts (le-of-suc-le-suc h)
+
+unbroken : (j : Judged) (p : ℕ) → broken j p ≡ none → T (good j)
+unbroken (Good n) p e = tt
+unbroken (Bad f) p e = absurd (let z : _≡_ {A = ℕ} 0 1 = cc in omega arith)
+
+good-unbroken : (j : Judged) (p : ℕ) → T (good j) → broken j p ≡ none
+good-unbroken (Good n) p t = refl
+good-unbroken (Bad f) p t = absurd t
+
+none-broken : (ts : List Told) → firstBroken ts ≡ none → All (λ t. T (good (t .judged))) ts
+none-broken [] e = tt
+none-broken (t ∷ ts) e =
+    (unbroken (t .judged) (t .start) (or-l (broken (t .judged) (t .start)) (firstBroken ts) e), none-broken ts (or-r (broken (t .judged) (t .start)) (firstBroken ts) e))
+
+broken-none : (ts : List Told) → All (λ t. T (good (t .judged))) ts → firstBroken ts ≡ none
+broken-none [] h = refl
+broken-none (t ∷ ts) h = rw (good-unbroken (t .judged) (t .start) (h .0)) (broken-none ts (h .1))
+
+unless-none : (b : Bool) (p : ℕ) → unless b p ≡ none → b ≡ true
+unless-none true p e = refl
+unless-none false p e = absurd (let z : _≡_ {A = ℕ} 0 1 = cc in omega arith)
+
+agrees : (o : Option Told) (n : ℕ) → differs o n ≡ none → Agrees o n
+agrees none n e = tt
+agrees (some t) n e = eqb-true (worth t) n (unless-none (eqb (worth t) n) (t .start) e)
+
+agreed : (o : Option Told) (n : ℕ) → Agrees o n → differs o n ≡ none
+agreed none n h = refl
+agreed (some t) n h = rw (eq-eqb (worth t) n h) refl
+
+abbrev BatchAgrees : Batch → Type 0
+BatchAgrees b = Agrees (b .declaredCount) (count b) × Agrees (b .declaredSum) (sum b)
+
+batches-agree : (bs : List Batch) → first (map batchFault bs) ≡ none → All BatchAgrees bs
+batches-agree [] e = tt
+batches-agree (b ∷ bs) e =
+    let f : batchFault b ≡ none = or-l (batchFault b) (first (map batchFault bs)) e in
+    let x : Option Refusal = at BatchCount (differs (b .declaredCount) (count b)) in
+    let y : Option Refusal = at BatchSum (differs (b .declaredSum) (sum b)) in (
+      (agrees (b .declaredCount) (count b) (at-none BatchCount _ (or-l x y f)), agrees (b .declaredSum) (sum b) (at-none BatchSum _ (or-r x y f))),
+      batches-agree bs (or-r (batchFault b) (first (map batchFault bs)) e),
+    )
+
+batches-agreed : (bs : List Batch) → All BatchAgrees bs → first (map batchFault bs) ≡ none
+batches-agreed [] h = refl
+batches-agreed (b ∷ bs) h = rw (agreed (b .declaredCount) (count b) (h .0 .0), agreed (b .declaredSum) (sum b) (h .0 .1)) (batches-agreed bs (h .1))
+
+-- ─── the theorem ───
+
+verdict-accepted : (o : Option Refusal) (y z : Totals) → verdict o y ≡ accepted z → o ≡ none
+verdict-accepted none y z e = refl
+verdict-accepted (some f) y z e = absurd (let z : _≡_ {A = ℕ} 0 1 = cc in omega arith)
+
+pub accepts : (r : Room) (ts : List Told) → Enough r ts → InProfile ts → AllAgree ts → verdictOf r ts ≡ accepted (totalsOf (batchesOf ts))
+unfolding Nones
+accepts r ts e p a =
+    ap (λ (o : Option Refusal). verdict o (totalsOf (batchesOf ts))) (first-none (stages r ts) (
+      at-is-none TooManyBatches _ (within-after mostBatches (all part.batch ts) (p .batches)),
+      (
+        at-is-none TooManyTransactions _ (within-after mostTransactions (all part.transaction ts) (p .transactions)),
+        (
+          broken-none ts (p .texts),
+          (
+            batches-agreed (batchesOf ts) (a .batches),
+            (
+              at-is-none MessageCount _ (agreed (the part.messageCount ts) _ (a .messageCount)),
+              (
+                at-is-none MessageSum _ (agreed (the part.messageSum ts) _ (a .messageSum)),
+                (rw (le-leb _ _ (e .slips)) refl, (rw (le-leb _ _ (e .rows)) refl, tt)),
+              ),
+            ),
+          ),
+        ),
+      ),
+    ))
+
+pub accepted-only : (r : Room) (ts : List Told) (y : Totals) → verdictOf r ts ≡ accepted y → InProfile ts × (AllAgree ts × Enough r ts)
+unfolding Nones
+accepted-only r ts y e =
+    let h = none-first (stages r ts) (verdict-accepted (first (stages r ts)) (totalsOf (batchesOf ts)) y e) in (
+      record {
+        batches = after-within mostBatches (all part.batch ts) (at-none TooManyBatches _ (h .0));
+        transactions = after-within mostTransactions (all part.transaction ts) (at-none TooManyTransactions _ (h .1 .0));
+        texts = none-broken ts (h .1 .1 .0);
+      },
+      (
+        record {
+          batches = batches-agree (batchesOf ts) (h .1 .1 .1 .0);
+          messageCount = agrees (the part.messageCount ts) _ (at-none MessageCount _ (h .1 .1 .1 .1 .0));
+          messageSum = agrees (the part.messageSum ts) _ (at-none MessageSum _ (h .1 .1 .1 .1 .1 .0));
+        },
+        record {
+          slips = leb-true _ _ (unless-none _ (12 * total count (batchesOf ts)) (at-none SlipsTooShort _ (h .1 .1 .1 .1 .1 .1 .0)));
+          rows = leb-true _ _ (unless-none _ (8 * length (batchesOf ts)) (at-none BatchesTooShort _ (h .1 .1 .1 .1 .1 .1 .1 .0)));
+        },
+      ),
+    )

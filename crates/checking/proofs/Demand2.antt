@@ -1,0 +1,49 @@
+-- DEMAND 2, of every outcome that the promise of the check allows: with tables long enough a message is accepted exactly when it belongs to the profile and every count
+-- and control sum that it declares equals the exact count and cents of its transactions, per batch and overall.
+--   demand-2-accepts     it belongs, all agree, the tables are long enough: it is accepted, with the exact totals
+--   demand-2-only        it is accepted: it belongs, all agree, and the tables were long enough
+use Prim.Native.Nat.{ℕ}
+use native.Mathlib.Omega.{arith}
+use mathlib.Core.List.{List}
+use mathlib.Core.Path.{_≡_, refl, ap, sym, subst, _∙_}
+use mathlib.Core.Logic.{_⊎_, inl, inr}
+use Rattle.laws.specs.Bytes.{Bytes}
+use Rattle.profile.specs.declared.Totals.{Totals}
+use Rattle.tree.specs.Form.{Message, message}
+use Rattle.tree.specs.Pain008.{Document, declaration}
+use Rattle.message.specs.declared.Told.{Told}
+use Rattle.message.specs.Message.{batchesOf}
+use Rattle.message.specs.Verdict.{Verdict, accepted, totalsOf, verdictOf}
+use Rattle.checking.specs.declared.Checked.{Checked}
+use Rattle.checking.specs.declared.Checked.the-variants.{Accepted, Refused}
+use Rattle.checking.specs.Check.{verdictSaid, saidBy, roomOf, Long, Stuck, Judged, Checks}
+use Rattle.checking.specs.Demand2.{AllAgree, Enough, Belongs}
+use Rattle.checking.proofs.Accepts.{accepts, accepted-only}
+use Rattle.checking.proofs.Outcome.{same-said}
+
+accepted-said : (r : Checked) (t : Totals) → verdictSaid r ≡ accepted t → r ≡ Accepted t
+accepted-said (Accepted u) t e = cc
+accepted-said (Refused f) t e = absurd (let z : _≡_ {A = ℕ} 0 1 = cc in omega arith)
+
+module _ (s : Bytes) (slips rows : List ℕ) (r : Checked) (a b : List ℕ) where
+  pub demand-2-accepts : Checks s slips rows r a b → (m : Message Document) → Belongs s m → AllAgree (saidBy m) → Enough (roomOf slips rows) (saidBy m)
+      → r ≡ Accepted (totalsOf (batchesOf (saidBy m)))
+  demand-2-accepts c m p h e = go (c .case)
+    where
+      go : Long s slips rows r a b ⊎ (Stuck s slips rows r a b ⊎ Judged s slips rows r a b) → r ≡ Accepted (totalsOf (batchesOf (saidBy m)))
+      go (inl q) = absurd (omega (arith, q .long, p .short))
+      go (inr (inl q)) = absurd (q .not-of-form (m, p .bytes))
+      go (inr (inr q)) =
+          accepted-said r (totalsOf (batchesOf (saidBy m)))
+          (q .answer ∙ ap (verdictOf (roomOf slips rows)) (same-said (q .read) m s (q .bytes) (p .bytes)) ∙ accepts (roomOf slips rows) (saidBy m) e (p .profile) h)
+
+  pub demand-2-only : Checks s slips rows r a b → (t : Totals) → r ≡ Accepted t → (m : Message Document) × (Belongs s m × (AllAgree (saidBy m) × Enough (roomOf slips rows) (saidBy m)))
+  demand-2-only c t e = go (c .case)
+    where
+      go : Long s slips rows r a b ⊎ (Stuck s slips rows r a b ⊎ Judged s slips rows r a b)
+          → (m : Message Document) × (Belongs s m × (AllAgree (saidBy m) × Enough (roomOf slips rows) (saidBy m)))
+      go (inl q) = absurd (let z : _≡_ {A = ℕ} 0 1 = cc in omega arith)
+      go (inr (inl q)) = absurd (let z : _≡_ {A = ℕ} 0 1 = cc in omega arith)
+      go (inr (inr q)) =
+          let h = accepted-only (roomOf slips rows) (saidBy (q .read)) t (sym (q .answer) ∙ ap verdictSaid e) in
+          (q .read, (record { short = q .short; bytes = q .bytes; profile = h .0 }, h .1))

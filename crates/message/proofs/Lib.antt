@@ -1,0 +1,2 @@
+-- Tells   an event told
+pub mod Tells

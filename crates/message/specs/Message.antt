@@ -1,0 +1,126 @@
+-- WHAT A MESSAGE SAYS, from the events of its tree. To be believed; definitions only.
+--   textOf s e, judgedAs k x   the text of the event e in the message s; a text judged by the kind of its element
+--   told s e, tell s es        an event, and all events, with what their texts are judged
+--   worth t                    the number that a text tells; 0 where it tells none or breaks its rule
+--   is n t                     the element plays the part n
+--   parts n ts                 each element of the part n with the events up to the next of that part
+--   all n ts, the n ts         the elements of the part n; the one of them, or none
+--   Transaction, Batch         what is said of each; transactionOf, batchOf: from the events of its part
+--   batchesOf ts               the batches of a message, in order
+--   count b, sum b             a batch's number of transactions, and their cents
+use Prim.Native.Nat.{ℕ, _+_}
+use mathlib.Core.Bool.{Bool, true, false}
+use mathlib.Core.List.{List, [], _∷_, map}
+use mathlib.Core.Option.{Option, none, some}
+use lib.Dec.{eqb}
+use lib.ListN.{length, take, drop}
+use Rattle.laws.specs.Bytes.{Bytes}
+use Rattle.laws.specs.Lists.{total}
+use Rattle.text.specs.declared.Judged.{Judged}
+use Rattle.text.specs.declared.Judged.the-variants.{Good}
+use Rattle.text.specs.Rules as rules
+use Rattle.tree.specs.declared.Kind.{Kind}
+use Rattle.tree.specs.declared.Kind.the-variants.{Holds, Text}
+use Rattle.tree.specs.declared.Event.{Event}
+use Rattle.tree.specs.Parts as part
+use Rattle.message.specs.declared.Told.{Told}
+
+-- ─── 1. Events with what their texts are judged ───
+
+abbrev pub textOf : Bytes → Event → Bytes
+textOf s e = take (e .length) (drop (e .start) s)
+
+abbrev pub judgedAs : Kind → Bytes → Judged
+judgedAs Holds x = Good 0
+judgedAs (Text r) x = rules.judged r x
+
+abbrev pub told : Bytes → Event → Told
+told s e = record { part = e .part; place = e .place; start = e .start; length = e .length; judged = judgedAs (e .kind) (textOf s e) }
+
+abbrev pub tell : Bytes → List Event → List Told
+tell s es = map (told s) es
+
+-- no stage that looks at a text's number is reached where a text breaks its rule
+abbrev pub worth : Told → ℕ
+worth t = rules.told (t .judged)
+
+-- ─── 2. Finding elements among the events ───
+
+abbrev pub is : ℕ → Told → Bool
+is n t = eqb (t .part) n
+
+-- the events before the first element of the part n
+abbrev pub before : ℕ → List Told → List Told
+before n [] = []
+before n (t ∷ ts) = elim (is n t) [ true ↦ [] | false ↦ t ∷ before n ts ]
+
+abbrev pub parts : ℕ → List Told → List (List Told)
+parts n [] = []
+parts n (t ∷ ts) = elim (is n t) [ true ↦ (t ∷ before n ts) ∷ parts n ts | false ↦ parts n ts ]
+
+abbrev pub all : ℕ → List Told → List Told
+all n [] = []
+all n (t ∷ ts) = elim (is n t) [ true ↦ t ∷ all n ts | false ↦ all n ts ]
+
+-- where there are several, which no tree of the profile has at the places asked for, the last one
+abbrev pub lastOr : Option Told → List Told → Option Told
+lastOr d [] = d
+lastOr d (t ∷ ts) = lastOr (some t) ts
+
+abbrev pub the : ℕ → List Told → Option Told
+the n ts = lastOr none (all n ts)
+
+-- ─── 3. Transactions and batches ───
+
+pub record Transaction : Type 0 where
+  pub amount : Option Told
+  pub endToEnd : Option Told
+  pub mandate : Option Told
+  pub debtorName : Option Told
+  pub debtorAccount : Option Told
+  pub remittance : Option Told
+
+pub record Batch : Type 0 where
+  pub declaredCount : Option Told
+  pub declaredSum : Option Told
+  pub scheme : Option Told
+  pub sequence : Option Told
+  pub transactions : List Transaction
+
+abbrev pub transactionOf : List Told → Transaction
+transactionOf p = record {
+  amount = the part.amount p;
+  endToEnd = the part.endToEnd p;
+  mandate = the part.mandate p;
+  debtorName = the part.debtorName p;
+  debtorAccount = the part.debtorAccount p;
+  remittance = the part.remittance p;
+}
+
+abbrev pub batchOf : List Told → Batch
+batchOf p = record {
+  declaredCount = the part.batchCount p;
+  declaredSum = the part.batchSum p;
+  scheme = the part.scheme p;
+  sequence = the part.sequence p;
+  transactions = map transactionOf (parts part.transaction p);
+}
+
+abbrev pub batchesOf : List Told → List Batch
+batchesOf ts = map batchOf (parts part.batch ts)
+
+-- ─── 4. Totals ───
+
+-- what a text tells; nothing is told where there is none
+abbrev pub worthOf : Option Told → ℕ
+worthOf none = 0
+worthOf (some t) = worth t
+
+abbrev pub centsOf : Transaction → ℕ
+centsOf x = worthOf (x .amount)
+
+abbrev pub count : Batch → ℕ
+count b = length (b .transactions)
+
+abbrev pub sum : Batch → ℕ
+sum b = total centsOf (b .transactions)

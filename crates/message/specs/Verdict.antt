@@ -1,0 +1,137 @@
+-- THE STAGES 3 TO 11 of the check, AND THE ROWS of its tables, of what a message says. To be believed; definitions only.
+--   Room             the lengths of the two tables
+--   stages r ts      the stages in order, each its first fault or none, as a refusal of profile
+--   verdictOf r ts   the refusal of the first stage that finds a fault, else the message's batches, transactions and cents
+--   slipsOf, rowsOf  the numbers that the two tables get
+use Prim.Native.Nat.{ℕ, zero, suc, _+_, _*_}
+use mathlib.Core.Bool.{Bool, true, false}
+use mathlib.Core.List.{List, [], _∷_, _++_, map}
+use mathlib.Core.Option.{Option, none, some}
+use lib.Dec.{eqb, leb}
+use lib.ListN.{length}
+use Rattle.laws.specs.Lists.{total, gather}
+use Rattle.profile.specs.Limits.{mostBatches, mostTransactions}
+use Rattle.profile.specs.declared.Refusal.{Refusal}
+use Rattle.profile.specs.declared.Refusal.the-variants.{TooManyBatches, TooManyTransactions, Text, BatchCount, BatchSum, MessageCount, MessageSum, SlipsTooShort, BatchesTooShort}
+use Rattle.profile.specs.declared.Totals.{Totals}
+use Rattle.text.specs.declared.Judged.{Judged}
+use Rattle.text.specs.declared.Judged.the-variants.{Good, Bad}
+use Rattle.tree.specs.Parts as part
+use Rattle.message.specs.declared.Told.{Told}
+use Rattle.message.specs.Message.{Transaction, Batch, all, the, batchesOf, worth, worthOf, centsOf, count, sum}
+
+-- ─── 1. First faults ───
+
+abbrev pub orElse : {A : Type 0} → Option A → Option A → Option A
+orElse none b = b
+orElse (some a) b = some a
+
+-- the first that is there
+abbrev pub first : {A : Type 0} → List (Option A) → Option A
+first [] = none
+first (a ∷ l) = orElse a (first l)
+
+-- a place that was found, as a refusal
+abbrev pub at : (ℕ → Refusal) → Option ℕ → Option Refusal
+at f none = none
+at f (some p) = some (f p)
+
+-- nothing where a test holds
+abbrev pub unless : Bool → ℕ → Option ℕ
+unless true p = none
+unless false p = some p
+
+-- ─── 2. The stages ───
+
+-- the place of the (k+1)st element: it is one too many where k are allowed
+abbrev pub placeAfter : ℕ → List Told → Option ℕ
+placeAfter k [] = none
+placeAfter zero (t ∷ ts) = some (t .place)
+placeAfter (suc k) (t ∷ ts) = placeAfter k ts
+
+-- a text that breaks its rule
+abbrev pub broken : Judged → ℕ → Option Refusal
+broken (Good n) p = none
+broken (Bad f) p = some (Text f p)
+
+-- the first such text, at its start
+abbrev pub firstBroken : List Told → Option Refusal
+firstBroken [] = none
+firstBroken (t ∷ ts) = orElse (broken (t .judged) (t .start)) (firstBroken ts)
+
+-- the start of a declaration that tells another number; an absent one tells none
+abbrev pub differs : Option Told → ℕ → Option ℕ
+differs none n = none
+differs (some t) n = unless (eqb (worth t) n) (t .start)
+
+-- a batch's count, then its sum
+abbrev pub batchFault : Batch → Option Refusal
+batchFault b = orElse (at BatchCount (differs (b .declaredCount) (count b))) (at BatchSum (differs (b .declaredSum) (sum b)))
+
+pub record Room : Type 0 where
+  pub slips : ℕ
+  pub rows : ℕ
+
+abbrev pub stages : Room → List Told → List (Option Refusal)
+stages r ts =
+    let bs = batchesOf ts in
+    at TooManyBatches (placeAfter mostBatches (all part.batch ts))
+    ∷ at TooManyTransactions (placeAfter mostTransactions (all part.transaction ts))
+    ∷ firstBroken ts
+    ∷ first (map batchFault bs)
+    ∷ at MessageCount (differs (the part.messageCount ts) (total count bs))
+    ∷ at MessageSum (differs (the part.messageSum ts) (total sum bs))
+    ∷ at SlipsTooShort (unless (leb (12 * total count bs) (r .slips)) (12 * total count bs))
+    ∷ at BatchesTooShort (unless (leb (8 * length bs) (r .rows)) (8 * length bs))
+    ∷ []
+
+-- what the stages answer: a refusal, or the totals
+pub data Verdict : Type 0 where
+  accepted : Totals → Verdict
+  refused : Refusal → Verdict
+
+abbrev pub verdict : Option Refusal → Totals → Verdict
+verdict none t = accepted t
+verdict (some f) t = refused f
+
+abbrev pub totalsOf : List Batch → Totals
+totalsOf bs = record { batches = length bs; transactions = record { 0 = total count bs }; cents = record { 0 = total sum bs } }
+
+abbrev pub verdictOf : Room → List Told → Verdict
+verdictOf r ts = verdict (first (stages r ts)) (totalsOf (batchesOf ts))
+
+-- ─── 3. The rows ───
+
+-- start and length of a text, 0 and 0 where it is missing
+abbrev pub span : Option Told → List ℕ
+span none = 0 ∷ 0 ∷ []
+span (some t) = t .start ∷ t .length ∷ []
+
+-- 1 or 0 for a declaration, then what it tells or 0
+abbrev pub declared : Option Told → List ℕ
+declared none = 0 ∷ 0 ∷ []
+declared (some t) = 1 ∷ worth t ∷ []
+
+-- twelve numbers: batch from 1, cents, the five texts
+abbrev pub slip : ℕ → Transaction → List ℕ
+slip k x = k ∷ centsOf x ∷ (span (x .endToEnd) ++ (span (x .mandate) ++ (span (x .debtorName) ++ (span (x .debtorAccount) ++ span (x .remittance)))))
+
+-- the slips of the batches, the first of which is batch k
+abbrev pub slipsFrom : ℕ → List Batch → List ℕ
+slipsFrom k [] = []
+slipsFrom k (b ∷ bs) = gather (slip k) (b .transactions) ++ slipsFrom (suc k) bs
+
+abbrev pub slipsOf : List Told → List ℕ
+slipsOf ts = slipsFrom 1 (batchesOf ts)
+
+-- eight numbers: transactions before it, count, cents, the two declarations, 4 × scheme + sequence
+abbrev pub row : ℕ → Batch → List ℕ
+row m b = m ∷ count b ∷ sum b ∷ (declared (b .declaredCount) ++ (declared (b .declaredSum) ++ ((4 * worthOf (b .scheme) + worthOf (b .sequence)) ∷ [])))
+
+-- the rows of the batches, with m transactions before them
+abbrev pub rowsFrom : ℕ → List Batch → List ℕ
+rowsFrom m [] = []
+rowsFrom m (b ∷ bs) = row m b ++ rowsFrom (m + count b) bs
+
+abbrev pub rowsOf : List Told → List ℕ
+rowsOf ts = rowsFrom 0 (batchesOf ts)
