@@ -1,13 +1,7 @@
--- THE LIMITS of a day list. To be believed; definitions only.
---   mostCollections   1,000      mostCeiling   500
---   Within n c        n collections at the ceiling c are within them, and the ceiling is at least 1
+-- THE LIMITS of a day list, which are the profile's. To be believed; definitions only.
+--   Within n c   n collections at the ceiling c are within them, and the ceiling is at least 1
 use Prim.Native.Nat.{ℕ, _≤_}
-
-abbrev pub mostCollections : ℕ
-mostCollections = 1_000
-
-abbrev pub mostCeiling : ℕ
-mostCeiling = 500
+use Rattle.profile.specs.Limits.{mostCollections, mostCeiling}
 
 pub record Within (n c : ℕ) : Type 0 where
   pub collections : n ≤ mostCollections

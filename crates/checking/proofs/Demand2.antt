@@ -14,9 +14,10 @@ use Rattle.tree.specs.Pain008.{Document, declaration}
 use Rattle.message.specs.declared.Told.{Told}
 use Rattle.message.specs.Message.{batchesOf}
 use Rattle.message.specs.Verdict.{Verdict, accepted, totalsOf, verdictOf}
-use Rattle.checking.specs.declared.Checked.{Checked}
-use Rattle.checking.specs.declared.Checked.the-variants.{Accepted, Refused}
-use Rattle.checking.specs.Check.{verdictSaid, saidBy, roomOf, Long, Stuck, Judged, Checks}
+use Rattle.state.specs.declared.Checked.{Checked}
+use Rattle.state.specs.declared.Checked.the-variants.{Accepted, Refused}
+use Rattle.state.specs.State.{verdictSaid}
+use Rattle.checking.specs.Check.{saidBy, roomOf, Long, Stuck, Judged, Checks}
 use Rattle.checking.specs.Demand2.{AllAgree, Enough, Belongs}
 use Rattle.checking.proofs.Accepts.{accepts, accepted-only}
 use Rattle.checking.proofs.Outcome.{same-said}

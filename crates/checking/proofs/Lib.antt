@@ -4,3 +4,4 @@
 pub mod Accepts
 pub mod Outcome
 pub mod Demand2
+pub mod Passes

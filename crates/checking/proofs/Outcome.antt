@@ -15,9 +15,10 @@ use Rattle.tree.proofs.Pain008.{unambiguous, place-one}
 use Rattle.message.specs.declared.Told.{Told}
 use Rattle.message.specs.Message.{tell}
 use Rattle.message.specs.Verdict.{Verdict, verdictOf, slipsOf, rowsOf}
-use Rattle.checking.specs.declared.Checked.{Checked}
-use Rattle.checking.specs.declared.Checked.the-variants.{Accepted, Refused}
-use Rattle.checking.specs.Check.{verdictSaid, saidBy, roomOf, after, Long, Stuck, Judged, Checks}
+use Rattle.state.specs.declared.Checked.{Checked}
+use Rattle.state.specs.declared.Checked.the-variants.{Accepted, Refused}
+use Rattle.state.specs.State.{verdictSaid}
+use Rattle.checking.specs.Check.{saidBy, roomOf, after, Long, Stuck, Judged, Checks}
 
 -- two messages of the same bytes say the same
 pub same-said : (m n : Message Document) (s : Bytes) → message declaration m ≡ s → message declaration n ≡ s → saidBy m ≡ saidBy n

@@ -1,5 +1,4 @@
 -- WHAT THE CHECK PROMISES of its answer and of the two lent tables. To be believed; definitions only.
---   verdictSaid r                  the answer as a verdict of the stages
 --   saidBy m                       what the message m says
 --   Checks s slips rows r slips′ rows′   of the message s, with the tables at entry: the answer r, and the tables at exit
 use Prim.Native.Nat.{ℕ, _<_, _≤_}
@@ -15,13 +14,10 @@ use Rattle.tree.specs.Form.{Message, message, messageEvents, OfForm, IsPlace}
 use Rattle.tree.specs.Pain008.{Document, declaration}
 use Rattle.message.specs.declared.Told.{Told}
 use Rattle.message.specs.Message.{tell}
-use Rattle.message.specs.Verdict.{Room, Verdict, accepted, refused, verdictOf, slipsOf, rowsOf}
-use Rattle.checking.specs.declared.Checked.{Checked}
-use Rattle.checking.specs.declared.Checked.the-variants.{Accepted, Refused}
-
-abbrev pub verdictSaid : Checked → Verdict
-verdictSaid (Accepted t) = accepted t
-verdictSaid (Refused f) = refused f
+use Rattle.message.specs.Verdict.{Room, verdictOf, slipsOf, rowsOf}
+use Rattle.state.specs.declared.Checked.{Checked}
+use Rattle.state.specs.declared.Checked.the-variants.{Accepted, Refused}
+use Rattle.state.specs.State.{verdictSaid}
 
 abbrev pub saidBy : Message Document → List Told
 saidBy m = tell (message declaration m) (messageEvents declaration m)

@@ -1,1 +1,46 @@
-// The day list. The definitions are in specs/; there is no code yet.
+// The day list: the values of its lines, and the refusals 21 to 26. Any bytes are judged, at any ceiling.
+//
+//   values   the values of a line, field by field
+//   stages   the stages that go over all lines: refusals 23 and 26
+ghost use mathlib.Core.Path.{_≡_};
+ghost use Rattle.daylist.specs.Stages.{judgedList};
+use profile::ListRefusal;
+
+pub mod stages;
+pub mod values;
+
+// What a list is judged: good, with the number of its collections, or refused.
+pub enum JudgedList {
+    Good(usize),
+    Refused(profile::ListRefusal),
+}
+
+// The list judged, stages 21 to 26 in order: refused with the first of them that finds a fault, or good, with the number of its collections.
+pub fn judge_list(list: &[u8], ceiling: u64) -> JudgedList
+    ensures { λ r. ⌜ r ≡ judgedList (now (list .entry)) ceiling ⌝ }
+{
+    if profile::Profile::BYTES < list.len() {
+        return JudgedList::Refused(ListRefusal::TooLong);
+    }
+    if ceiling < 1 {
+        return JudgedList::Refused(ListRefusal::Ceiling);
+    }
+    if profile::Profile::CEILING < ceiling {
+        return JudgedList::Refused(ListRefusal::Ceiling);
+    }
+    match stages::judge_frames(list) {
+        JudgedList::Good(lines) => {
+            if lines < 2 {
+                return JudgedList::Refused(ListRefusal::NoCollection(lines));
+            }
+            if 1 + profile::Profile::COLLECTIONS < lines {
+                return JudgedList::Refused(ListRefusal::TooManyCollections);
+            }
+            if let JudgedList::Refused(refusal) = stages::judge_values(list) {
+                return JudgedList::Refused(refusal);
+            }
+            JudgedList::Good(lines - 1)
+        }
+        JudgedList::Refused(refusal) => JudgedList::Refused(refusal),
+    }
+}

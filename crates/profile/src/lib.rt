@@ -137,6 +137,8 @@ pub struct Limits {
     pub batches: u64,
     pub transactions: u64,
     pub cents: u64,
+    pub collections: usize,
+    pub ceiling: u64,
 }
 
 // The profile of a message: its limits by name, and the tally that a reading starts with.
@@ -157,6 +159,12 @@ impl Profile {
     // The most cents of one amount: 999999999.99.
     pub const CENTS: u64 = 99999999999;
 
+    // The most collections of a day list.
+    pub const COLLECTIONS: usize = 1000;
+
+    // The highest ceiling: the most collections of a batch that a caller may ask for.
+    pub const CEILING: u64 = 500;
+
     // The limits are those of document 01.
     pub fn limits() -> Limits
         ensures { λ r. ⌜ r ≡ limits ⌝ }
@@ -166,6 +174,8 @@ impl Profile {
             batches: Profile::BATCHES,
             transactions: Profile::TRANSACTIONS,
             cents: Profile::CENTS,
+            collections: Profile::COLLECTIONS,
+            ceiling: Profile::CEILING,
         }
     }
 

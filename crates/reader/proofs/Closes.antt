@@ -7,7 +7,7 @@ use borrow.Author.Tests.{lt-ltb, le-ltb}
 use native.Mathlib.Omega.{arith}
 use Rattle.laws.specs.Bytes.{Bytes}
 use Rattle.tree.specs.Form.{common}
-use Rattle.step.specs.declared.State.{State}
+use Rattle.state.specs.declared.State.{State}
 use Rattle.table.specs.declared.Element.{Element}
 use Rattle.reader.specs.declared.walk.Reading.the-variants.{Ended, Stuck}
 use Rattle.table.specs.Table.{elementCount, elementAt, closeTag}

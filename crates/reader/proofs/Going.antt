@@ -25,9 +25,9 @@ use Rattle.tree.specs.declared.Kind.the-variants.{Holds}
 use Rattle.tree.specs.declared.Event.{Event}
 use Rattle.tree.specs.Form.{How, Elem, Items, none, item, event, part, kind, items, inRun, opening, closing, skips, after, common}
 use Rattle.tree.specs.Tags.{Eat, ate, miss, oneMore, eat, Choice, stop, close, child, far, closes, choose}
-use Rattle.step.specs.declared.State.{State}
-use Rattle.step.specs.Step.{Carried, stepOf, Within}
-use Rattle.step.proofs.Bounds.{within-more}
+use Rattle.state.specs.declared.State.{State}
+use Rattle.state.specs.Fill.{Carried, stepOf, Within}
+use Rattle.state.proofs.Bounds.{within-more}
 use Rattle.table.specs.declared.Element.{Element}
 use Rattle.table.specs.declared.Row.{Row}
 use Rattle.reader.specs.declared.walk.Reading.{Reading}
@@ -340,7 +340,7 @@ closed-fine s e far′ at st h l w =
   where
     go : (n : ℕ) (z : Bool) → at + n ≤ length s → (z ≡ false → 1 ≤ n) → Fine s at (pick z (Stuck (max far′ (at + n))) (Ended (at + n) st))
     go n true a b = tt
-    go n false a b = (omega (arith, b refl), (a, within-more at (at + n) st (omega arith) w))
+    go n false a b = (omega (arith, b refl), (a, within-more w (omega arith)))
 
 -- the opening tag has room
 pub room-is : (s : Bytes) (e at : ℕ) (st : State) (x : Element) → Ready s e at st → x ≡ table.elementAt e → at + (x .close - x .«open») ≤ length s

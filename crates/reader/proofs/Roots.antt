@@ -22,7 +22,7 @@ use Rattle.tree.specs.Pain008.{Document, declaration}
 use Rattle.tree.proofs.Steps.{Eaten, eaten}
 use Rattle.tree.proofs.Whole.{Promise}
 use Rattle.tree.proofs.Pain008.{read-right}
-use Rattle.step.specs.Step.{Carried, stepOf}
+use Rattle.state.specs.Fill.{Carried, stepOf}
 use Rattle.reader.specs.declared.Outcome.{Outcome}
 use Rattle.reader.specs.declared.Outcome.the-variants.{TooLong, Stuck, Read}
 use Rattle.reader.specs.Walk.{At, ended, halts, fold, from, elementAt}
@@ -34,7 +34,7 @@ use Rattle.table.proofs.Held.{document-held, held, placed, open-length}
 use Rattle.reader.specs.declared.walk.Reading.{Reading}
 use Rattle.reader.specs.declared.walk.Reading.the-variants.{Ended, Stuck as Halted}
 use Rattle.reader.specs.Told.{told}
-use Rattle.step.specs.declared.State.{State}
+use Rattle.state.specs.declared.State.{State}
 use Rattle.reader.proofs.Going.{eat-part, eat-whole, carry}
 
 -- ─── positions ───

@@ -1,5 +1,6 @@
 -- WHAT READING A MESSAGE PROMISES. To be believed; definitions only.
 --   ReadRight s a r slips rows   with a carried in, the answer r, and what the tables then hold, are right of the message s
+--   Bounded n r                  the numbers of the state that was read are small at the place n
 --   Rooted                       the same of what follows the declaration, in terms of the reader
 use Prim.Native.Nat.{ℕ, _<_, _≤_}
 use mathlib.Core.List.{List}
@@ -11,7 +12,7 @@ use Rattle.tree.specs.declared.Event.{Event}
 use Rattle.tree.specs.Form.{Message, message, messageEvents, OfForm, IsPlace}
 use Rattle.tree.specs.Pain008.{Document, declaration}
 use Rattle.tree.specs.Reader.{Res, done, stuck, shift, farther, lead}
-use Rattle.step.specs.Step.{Carried, stepOf}
+use Rattle.state.specs.Fill.{Carried, stepOf, Within}
 use Rattle.reader.specs.declared.Outcome.{Outcome}
 use Rattle.reader.specs.declared.Outcome.the-variants.{TooLong, Stuck, Read}
 use Rattle.reader.specs.Walk.{fold}
@@ -22,6 +23,12 @@ ReadRight s a (Stuck n) slips rows = (length s ≤ mostBytes) × ((OfForm declar
 ReadRight s a (Read st) slips rows =
     (length s ≤ mostBytes)
     × ((m : Message Document) × (message declaration m ≡ s) × (fold Carried (stepOf s) s a (messageEvents declaration m) ≡ record { state = st; slips = slips; rows = rows }))
+
+-- the numbers of the state that was read are small at the place n
+abbrev pub Bounded : ℕ → Outcome → Type 0
+Bounded n TooLong = Unit {0}
+Bounded n (Stuck p) = Unit {0}
+Bounded n (Read st) = Within n st
 
 unfoldable pub Answers : Bytes → Carried → Res → Outcome → List ℕ → List ℕ → Type 0
 Answers s a x TooLong slips rows = ⊥

@@ -11,8 +11,8 @@ use lib.ListN.{length, drop}
 use Rattle.laws.specs.Bytes.{Bytes}
 use Rattle.profile.specs.Limits.{mostBytes}
 use Rattle.tree.specs.Form.{common}
-use Rattle.step.specs.declared.State.{State}
-use Rattle.step.specs.Step.{Carried, stepOf, Within}
+use Rattle.state.specs.declared.State.{State}
+use Rattle.state.specs.Fill.{Carried, stepOf, Within}
 use Rattle.reader.specs.declared.walk.Reading.{Reading}
 use Rattle.reader.specs.declared.walk.Reading.the-variants.{Ended, Stuck}
 use Rattle.table.specs.Table as table

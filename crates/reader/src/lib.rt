@@ -5,12 +5,12 @@ ghost use Prim.Native.Nat.{_≤_};
 ghost use lib.ListN.{length};
 ghost use Rattle.tree.specs.Pain008.{Document};
 ghost use Rattle.profile.specs.Limits.{mostBytes};
-ghost use Rattle.step.specs.Step.{Within, Carried};
-ghost use Rattle.reader.specs.Read.{Rooted, ReadRight};
+ghost use Rattle.state.specs.Fill.{Within, Carried};
+ghost use Rattle.reader.specs.Read.{Rooted, ReadRight, Bounded};
 
 pub mod walk;
 
-use step::State;
+use state::State;
 use walk::Reading;
 
 // What a message comes to.
@@ -33,7 +33,8 @@ fn read_root(
     rows: &mut [u64],
 ) -> Outcome
     requires { ⌜ (length (now s) ≤ mostBytes) × ((from ≤ length (now s)) × Within 0 state) ⌝ }
-    ensures { λ r. ⌜ Rooted (now (s .entry)) far from (record { state = state; slips = now (slips .entry); rows = now (rows .entry) }) r (now (slips .exit)) (now (rows .exit)) ⌝ }
+    ensures within { λ r. ⌜ Bounded (length (now (s .entry))) r ⌝ }
+    ensures exact { λ r. ⌜ Rooted (now (s .entry)) far from (record { state = state; slips = now (slips .entry); rows = now (rows .entry) }) r (now (slips .exit)) (now (rows .exit)) ⌝ }
 {
     let at = scan::white_end(s, from);
     let root = table::element_at(0);
@@ -56,7 +57,8 @@ fn read_root(
 // A whole message: the declaration or none, then the root. The tables are lent to the steps.
 pub fn read(message: &[u8], state: State, slips: &mut [u64], rows: &mut [u64]) -> Outcome
     requires { ⌜ Within 0 state ⌝ }
-    ensures { λ r. ⌜ ReadRight (now (message .entry)) (record { state = state; slips = now (slips .entry); rows = now (rows .entry) }) r (now (slips .exit)) (now (rows .exit)) ⌝ }
+    ensures within { λ r. ⌜ Bounded (length (now (message .entry))) r ⌝ }
+    ensures right { λ r. ⌜ ReadRight (now (message .entry)) (record { state = state; slips = now (slips .entry); rows = now (rows .entry) }) r (now (slips .exit)) (now (rows .exit)) ⌝ }
 {
     if profile::Profile::BYTES < message.len() {
         return Outcome::TooLong;

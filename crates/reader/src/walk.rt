@@ -4,12 +4,12 @@ ghost use Prim.Native.Nat.{_≤_, _<_};
 ghost use lib.Dec.{T};
 ghost use lib.ListN.{length};
 ghost use Rattle.tree.specs.Form.{Elem, items};
-ghost use Rattle.step.specs.Step.{Carried, stepOf};
+ghost use Rattle.state.specs.Fill.{Carried, stepOf};
 ghost use Rattle.table.specs.Table.{elementCount};
 ghost use Rattle.table.specs.Held.{holdsElem};
 ghost use Rattle.reader.specs.Walk.{childrenAt, elementAt};
 ghost use Rattle.reader.specs.Told.{told, closed, Ready, ReadyKids, Fine};
-use step::State;
+use state::State;
 use tree::Event;
 
 // What reading comes to.
@@ -59,7 +59,7 @@ pub fn read_element(
         start,
         length: end - start,
     };
-    let next = step::on_event(state, s, slips, rows, event);
+    let next = fill::on_event(state, s, slips, rows, event);
     read_children(s, e, end, next, slips, rows)
 }
 

@@ -4,9 +4,11 @@
 --   filledSlips c, filledRows c   the tables with the open transaction's slip, and with the open batch's row
 --   stepOf s c e               what is carried behind the event e of the message s
 --   Within p st                what keeps the numbers small at the place p
+--   Sane t, Fit e              what keeps an amount, a scheme and a sequence small
 use Prim.Native.Nat.{ℕ, zero, suc, _+_, _*_, _≤_}
 use mathlib.Core.Bool.{Bool, true, false}
 use mathlib.Core.List.{List, [], _∷_, _++_}
+use mathlib.Core.Path.{_≡_}
 use lib.Dec.{leb}
 use lib.ListN.{length}
 use Rattle.laws.specs.Bytes.{Bytes}
@@ -18,10 +20,12 @@ use Rattle.profile.specs.declared.DeclaredCount.the-variants.{Count, Absent as 
 use Rattle.profile.specs.declared.DeclaredSum.{DeclaredSum}
 use Rattle.profile.specs.declared.DeclaredSum.the-variants.{Cents, Absent as NoSum}
 use Rattle.profile.specs.declared.Batch.{Batch}
+use Rattle.text.specs.declared.Rule.the-variants.{Amount, Scheme, Sequence}
+use Rattle.tree.specs.declared.Kind.the-variants.{Text}
 use Rattle.tree.specs.declared.Event.{Event}
 use Rattle.tree.specs.Parts as part
 use Rattle.message.specs.declared.Told.{Told}
-use Rattle.message.specs.Message.{is, told}
+use Rattle.message.specs.Message.{is, told, worth}
 use Rattle.state.specs.declared.Open.{Open}
 use Rattle.state.specs.declared.Open.the-variants.{Nothing, Cents as OpenCents}
 use Rattle.state.specs.declared.Span.{Span}
@@ -62,7 +66,7 @@ pub record Carried : Type 0 where
 abbrev pub putIf : List ℕ → ℕ → ℕ → List ℕ → List ℕ
 putIf out at n xs = pick (leb (at + n) (length out)) (putAt out at xs) out
 
--- the slips with that of the open transaction: m transactions are in closed batches, n were added to the open one, which is batch k
+-- the slips with that of the open transaction: m transactions are in closed batches, n were added to the open one, which is batch k; none before the first batch
 abbrev pub putSlip : ℕ → ℕ → ℕ → Slip → List ℕ → Open → List ℕ
 putSlip k m n s slips Nothing = slips
 putSlip k m n s slips (OpenCents c) = closeIf k slips (putIf slips (12 * (m + n)) 12 (slipNumbers k c s))
@@ -98,3 +102,15 @@ pub record Within (p : ℕ) (st : State) : Type 0 where
   pub summed : st .tally .closed .cents .0 + adding (st .tally .batch) (st .«open») .sum .0 ≤ mostCents * p
   pub scheme : st .scheme ≤ 3
   pub sequence : st .sequence ≤ 3
+
+-- what a text tells is small: an amount, a scheme, a sequence
+pub record Sane (t : Told) : Type 0 where
+  pub amount : t .part ≡ part.amount → worth t ≤ mostCents
+  pub scheme : t .part ≡ part.scheme → worth t ≤ 3
+  pub sequence : t .part ≡ part.sequence → worth t ≤ 3
+
+-- an amount, a scheme and a sequence are judged as such
+pub record Fit (e : Event) : Type 0 where
+  pub amount : e .part ≡ part.amount → e .kind ≡ Text Amount
+  pub scheme : e .part ≡ part.scheme → e .kind ≡ Text Scheme
+  pub sequence : e .part ≡ part.sequence → e .kind ≡ Text Sequence

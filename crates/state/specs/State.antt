@@ -2,6 +2,7 @@
 --   fresh          nothing was read                step st t      the state after the event t
 --   tallied st     the tally with the open batch closed
 --   answer r st    what is answered where st is the state after the last event
+--   found, verdictSaid   what a stage and an answer of the code say
 use Prim.Native.Nat.{ℕ, zero, suc, _+_, _*_}
 use mathlib.Core.Bool.{Bool, true, false, not}
 use mathlib.Core.List.{List, [], _∷_}
@@ -23,7 +24,7 @@ use Rattle.text.specs.declared.Judged.the-variants.{Good, Bad}
 use Rattle.tree.specs.Parts as part
 use Rattle.message.specs.declared.Told.{Told}
 use Rattle.message.specs.Message.{is, worth}
-use Rattle.message.specs.Verdict.{Room, Verdict, verdict, at, first, unless}
+use Rattle.message.specs.Verdict.{Room, Verdict, Verdict.accepted, Verdict.refused, verdict, at, first, unless}
 use Rattle.state.specs.declared.FirstBad.{FirstBad}
 use Rattle.state.specs.declared.FirstBad.the-variants.{None as NoBad, At as BadAt}
 use Rattle.state.specs.declared.Over.{Over}
@@ -37,6 +38,10 @@ use Rattle.state.specs.declared.Open.the-variants.{Nothing, Cents as Ope
 use Rattle.state.specs.declared.Span.{Span}
 use Rattle.state.specs.declared.Slip.{Slip}
 use Rattle.state.specs.declared.State.{State}
+use Rattle.state.specs.declared.Stage.{Stage}
+use Rattle.state.specs.declared.Stage.the-variants.{Passed, Refused as Stopped}
+use Rattle.state.specs.declared.Checked.{Checked}
+use Rattle.state.specs.declared.Checked.the-variants.{Accepted, Refused}
 
 -- the new one where a test holds, else the old one
 abbrev pub pick : {A : Type 0} → Bool → A → A → A
@@ -245,21 +250,34 @@ faultFound NoFault = none
 faultFound (WrongCount p) = some (BatchCount p)
 faultFound (WrongSum p) = some (BatchSum p)
 
+-- what is found of the totals: the header's declarations, then the tables
+abbrev pub lastFound : Room → Header → Totals → List (Option Refusal)
+lastFound r h y =
+    let n = y .transactions .0 in
+    at MessageCount (pick (countDiffers (h .«declared_count») (y .transactions)) (some (h .«count_at»)) none)
+    ∷ at MessageSum (pick (sumDiffers (h .«declared_sum») (y .cents)) (some (h .«sum_at»)) none)
+    ∷ at SlipsTooShort (unless (leb (12 * n) (r .slips)) (12 * n))
+    ∷ at BatchesTooShort (unless (leb (8 * y .batches) (r .rows)) (8 * y .batches))
+    ∷ []
+
 abbrev pub answerFrom : Room → State → BatchFault → Totals → Verdict
 answerFrom r st f y =
-    let n = y .transactions .0 in
-    let h = st .header in
     verdict (first (
     at TooManyBatches (overFound (st .batches .over))
     ∷ at TooManyTransactions (overFound (st .transactions .over))
     ∷ badFound (st .bad)
     ∷ faultFound f
-    ∷ at MessageCount (pick (countDiffers (h .«declared_count») (y .transactions)) (some (h .«count_at»)) none)
-    ∷ at MessageSum (pick (sumDiffers (h .«declared_sum») (y .cents)) (some (h .«sum_at»)) none)
-    ∷ at SlipsTooShort (unless (leb (12 * n) (r .slips)) (12 * n))
-    ∷ at BatchesTooShort (unless (leb (8 * y .batches) (r .rows)) (8 * y .batches))
-    ∷ []))
+    ∷ lastFound r (st .header) y))
     y
 
 abbrev pub answer : Room → State → Verdict
 answer r st = answerFrom r st (faulted st) (tallied st .closed)
+
+-- what the code says: a stage, and the whole answer
+abbrev pub found : Stage → Option Refusal
+found Passed = none
+found (Stopped x) = some x
+
+abbrev pub verdictSaid : Checked → Verdict
+verdictSaid (Accepted y) = accepted y
+verdictSaid (Refused x) = refused x

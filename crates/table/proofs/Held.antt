@@ -62,7 +62,7 @@ unfolding kindOf
 kind-of-number Holds = refl
 kind-of-number (Text r) = kind-of-rule r
 
-kind-in : (i : ℕ) → elementAt i .kind ≡ kindOf (kindIn i)
+pub kind-in : (i : ℕ) → elementAt i .kind ≡ kindOf (kindIn i)
 unfolding elementAt kindIn
 kind-in i = refl
 

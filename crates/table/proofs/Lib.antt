@@ -1,2 +1,3 @@
 -- Held   the tables hold the profile tree
 pub mod Held
+pub mod Fits

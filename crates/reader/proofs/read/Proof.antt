@@ -30,7 +30,7 @@ same-length-2 : tie.Need-same-length-2
 same-length-2 c = search needs
 
 returns-2 : tie.Need-returns-2
-returns-2 c = read-is (c .before .before .before .before .before .before .before .before .before .before .before .before .before .before .args .message .now) _ _ _ _ _ (c .before .before .before .before .before .before .before .before .before .before .if1 .left) (with-declaration (c .before .before .before .before .before .before .before .before .before .before .before .before .before .before .args .message .now) (sym (c .before .before .before .before .before .before .before .before .agrees .ensures) ∙ c .before .before .before .before .before .before .before .if2 .taken)) (c .before .before .before .before .read-root .ensures)
+returns-2 c = (c .before .before .before .before .read-root .ensures .0, read-is (c .before .before .before .before .before .before .before .before .before .before .before .before .before .before .args .message .now) _ _ _ _ _ (c .before .before .before .before .before .before .before .before .before .before .if1 .left) (with-declaration (c .before .before .before .before .before .before .before .before .before .before .before .before .before .before .args .message .now) (sym (c .before .before .before .before .before .before .before .before .agrees .ensures) ∙ c .before .before .before .before .before .before .before .if2 .taken)) (c .before .before .before .before .read-root .ensures .1))
 
 read-root-requires-2 : tie.Need-read-root-requires-2
 read-root-requires-2 c κs = (c .before .before .before .before .before .if1 .left, (omega arith, c .before .before .before .before .before .before .before .before .before .pre))
@@ -45,7 +45,7 @@ returns-3 : tie.Need-returns-3
 returns-3 c =
     let h = common-in (c .before .before .before .before .before .before .before .before .before .before .before .before .before .before .args .message .now) declaration 0 _ (omega arith) (c .before .before .before .before .before .before .before .before .agrees .ensures) in
     let l : c .before .before .before .before .before .before .before .before .agrees .result < 38 = omega (arith, c .before .before .before .before .before .before .before .if2 .left) in
-    read-is (c .before .before .before .before .before .before .before .before .before .before .before .before .before .before .args .message .now) _ _ _ _ _ (c .before .before .before .before .before .before .before .before .before .before .if1 .left) (without-declaration (c .before .before .before .before .before .before .before .before .before .before .before .before .before .before .args .message .now) _ (c .before .before .before .before .before .before .before .before .agrees .ensures) l) (c .before .before .before .before .read-root2 .ensures)
+    (c .before .before .before .before .read-root2 .ensures .0, read-is (c .before .before .before .before .before .before .before .before .before .before .before .before .before .before .args .message .now) _ _ _ _ _ (c .before .before .before .before .before .before .before .before .before .before .if1 .left) (without-declaration (c .before .before .before .before .before .before .before .before .before .before .before .before .before .before .args .message .now) _ (c .before .before .before .before .before .before .before .before .agrees .ensures) l) (c .before .before .before .before .read-root2 .ensures .1))
 
 pub read-spec : {M : Type 1} → statement M
 read-spec =

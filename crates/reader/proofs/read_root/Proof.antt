@@ -6,7 +6,7 @@ use mathlib.Core.Path.{subst}
 use lib.ListN.{length}
 use Rattle.tree.specs.Form.{white}
 use Rattle.tree.specs.Pain008.{Document}
-use Rattle.step.proofs.Bounds.{within-more}
+use Rattle.state.proofs.Bounds.{within-more}
 use Rattle.table.specs.declared.Element.{Element}
 use Rattle.reader.specs.Told.{Fine}
 use Rattle.scan.proofs.Scans.{common-in, run-in}
@@ -41,9 +41,11 @@ later-requires c κs = search needs
 
 returns : tie.Need-returns
 unfolding Answers
-returns c =
-    root-missed (c .before .before .before .before .before .before .before .before .before .args .s .now) _ _ _ _ (c .before .before .before .before .before .white-end .ensures) (root-agrees _ (c .before .before .before .before .element-at .ensures) (c .before .before .before .before .before .before .before .before .before .args .s .now) (c .before .before .before .before .before .white-end .result) _ (c .before .before .before .opens .ensures))
-    (omega (arith, root-length _ (c .before .before .before .before .element-at .ensures), c .before .if1 .taken)) _ (c .later .ensures)
+returns c = (
+  tt,
+  root-missed (c .before .before .before .before .before .before .before .before .before .args .s .now) _ _ _ _ (c .before .before .before .before .before .white-end .ensures) (root-agrees _ (c .before .before .before .before .element-at .ensures) (c .before .before .before .before .before .before .before .before .before .args .s .now) (c .before .before .before .before .before .white-end .result) _ (c .before .before .before .opens .ensures))
+      (omega (arith, root-length _ (c .before .before .before .before .element-at .ensures), c .before .if1 .taken)) _ (c .later .ensures),
+)
 
 read-element-requires : tie.Need-read-element-requires
 read-element-requires c κs =
@@ -54,7 +56,7 @@ read-element-requires c κs =
       short = c .before .before .before .before .before .before .before .before .before .before .pre .0;
       known = omega arith;
       room = subst (λ (x : Element). c .before .before .before .before .before .before .white-end .result + (x .close - x .«open») ≤ length (c .before .before .before .before .before .before .before .before .before .before .args .s .now)) (c .before .before .before .before .before .element-at .ensures) (omega arith);
-      bounds = within-more _ _ _ (omega arith) (c .before .before .before .before .before .before .before .before .before .before .pre .1 .1);
+      bounds = within-more (c .before .before .before .before .before .before .before .before .before .before .pre .1 .1) (omega arith);
     }
 
 enum-known-p : tie.Need-enum-known-p
@@ -81,10 +83,12 @@ same-length-2 c = search needs
 
 returns-2 : tie.Need-returns-2
 unfolding Answers
-returns-2 c =
-    root-more (c .before .before .before .before .before .before .before .before .before .before .before .before .before .before .before .before .before .before .before .before .before .args .s .now) _ _ _ _ (c .before .before .before .before .before .before .before .before .before .before .before .before .before .before .before .before .before .white-end .ensures) (root-agrees _ (c .before .before .before .before .before .before .before .before .before .before .before .before .before .before .before .before .element-at .ensures) (c .before .before .before .before .before .before .before .before .before .before .before .before .before .before .before .before .before .before .before .before .before .args .s .now) (c .before .before .before .before .before .before .before .before .before .before .before .before .before .before .before .before .before .white-end .result) _ (c .before .before .before .before .before .before .before .before .before .before .before .before .before .before .before .opens .ensures))
-    (omega (arith, root-length _ (c .before .before .before .before .before .before .before .before .before .before .before .before .before .before .before .before .element-at .ensures), c .before .before .before .before .before .before .before .before .before .before .before .before .before .if1 .left)) _ _ _ _ (c .before .before .before .before .before .before .before .before .before .before .read-element .ensures .1 Document document-held) _ _ _ (c .before .before .before .before .p2 .given .1)
-    (c .before .before .white-end2 .ensures) (c .before .if2 .taken) _ (c .later3 .ensures)
+returns-2 c = (
+  tt,
+  root-more (c .before .before .before .before .before .before .before .before .before .before .before .before .before .before .before .before .before .before .before .before .before .args .s .now) _ _ _ _ (c .before .before .before .before .before .before .before .before .before .before .before .before .before .before .before .before .before .white-end .ensures) (root-agrees _ (c .before .before .before .before .before .before .before .before .before .before .before .before .before .before .before .before .element-at .ensures) (c .before .before .before .before .before .before .before .before .before .before .before .before .before .before .before .before .before .before .before .before .before .args .s .now) (c .before .before .before .before .before .before .before .before .before .before .before .before .before .before .before .before .before .white-end .result) _ (c .before .before .before .before .before .before .before .before .before .before .before .before .before .before .before .opens .ensures))
+      (omega (arith, root-length _ (c .before .before .before .before .before .before .before .before .before .before .before .before .before .before .before .before .element-at .ensures), c .before .before .before .before .before .before .before .before .before .before .before .before .before .if1 .left)) _ _ _ _ (c .before .before .before .before .before .before .before .before .before .before .read-element .ensures .1 Document document-held) _ _ _ (c .before .before .before .before .p2 .given .1)
+      (c .before .before .white-end2 .ensures) (c .before .if2 .taken) _ (c .later3 .ensures),
+)
 
 same-length-3 : tie.Need-same-length-3
 same-length-3 c = search needs
@@ -94,10 +98,12 @@ same-length-4 c = search needs
 
 returns-3 : tie.Need-returns-3
 unfolding Answers
-returns-3 c =
-    root-lost (c .before .before .before .before .before .before .before .before .before .before .before .before .before .before .before .before .before .before .before .args .s .now) _ _ _ _ (c .before .before .before .before .before .before .before .before .before .before .before .before .before .before .before .white-end .ensures) (root-agrees _ (c .before .before .before .before .before .before .before .before .before .before .before .before .before .before .element-at .ensures) (c .before .before .before .before .before .before .before .before .before .before .before .before .before .before .before .before .before .before .before .args .s .now) (c .before .before .before .before .before .before .before .before .before .before .before .before .before .before .before .white-end .result) _ (c .before .before .before .before .before .before .before .before .before .before .before .before .before .opens .ensures))
-    (omega (arith, root-length _ (c .before .before .before .before .before .before .before .before .before .before .before .before .before .before .element-at .ensures), c .before .before .before .before .before .before .before .before .before .before .before .if1 .left)) _ _ _ _ (c .before .before .before .before .before .before .before .before .read-element .ensures .1 Document document-held) _ (c .before .before .p .given .1)
-    _ (c .later2 .ensures)
+returns-3 c = (
+  tt,
+  root-lost (c .before .before .before .before .before .before .before .before .before .before .before .before .before .before .before .before .before .before .before .args .s .now) _ _ _ _ (c .before .before .before .before .before .before .before .before .before .before .before .before .before .before .before .white-end .ensures) (root-agrees _ (c .before .before .before .before .before .before .before .before .before .before .before .before .before .before .element-at .ensures) (c .before .before .before .before .before .before .before .before .before .before .before .before .before .before .before .before .before .before .before .args .s .now) (c .before .before .before .before .before .before .before .before .before .before .before .before .before .before .before .white-end .result) _ (c .before .before .before .before .before .before .before .before .before .before .before .before .before .opens .ensures))
+      (omega (arith, root-length _ (c .before .before .before .before .before .before .before .before .before .before .before .before .before .before .element-at .ensures), c .before .before .before .before .before .before .before .before .before .before .before .if1 .left)) _ _ _ _ (c .before .before .before .before .before .before .before .before .read-element .ensures .1 Document document-held) _ (c .before .before .p .given .1)
+      _ (c .later2 .ensures),
+)
 
 same-length-5 : tie.Need-same-length-5
 same-length-5 c = search needs
@@ -108,9 +114,12 @@ same-length-6 c = search needs
 returns-4 : tie.Need-returns-4
 unfolding Answers
 returns-4 c =
-    root-done (c .before .before .before .before .before .before .before .before .before .before .before .before .before .before .before .before .before .before .before .before .args .s .now) _ _ _ _ (c .before .before .before .before .before .before .before .before .before .before .before .before .before .before .before .before .white-end .ensures) (root-agrees _ (c .before .before .before .before .before .before .before .before .before .before .before .before .before .before .before .element-at .ensures) (c .before .before .before .before .before .before .before .before .before .before .before .before .before .before .before .before .before .before .before .before .args .s .now) (c .before .before .before .before .before .before .before .before .before .before .before .before .before .before .before .before .white-end .result) _ (c .before .before .before .before .before .before .before .before .before .before .before .before .before .before .opens .ensures))
-    (omega (arith, root-length _ (c .before .before .before .before .before .before .before .before .before .before .before .before .before .before .before .element-at .ensures), c .before .before .before .before .before .before .before .before .before .before .before .before .if1 .left)) _ _ _ _ (c .before .before .before .before .before .before .before .before .before .read-element .ensures .1 Document document-held) _ _ _ (c .before .before .before .p2 .given .1)
-    (c .before .white-end2 .ensures) (c .if2 .left)
+    let f = subst (Fine (c .before .before .before .before .before .before .before .before .before .before .before .before .before .before .before .before .before .before .before .before .args .s .now) (c .before .before .before .before .before .before .before .before .before .before .before .before .before .before .before .before .white-end .result)) (c .before .before .before .p2 .given .1) (c .before .before .before .before .before .before .before .before .before .read-element .ensures .0) in (
+      within-more (f .1 .1) (f .1 .0),
+      root-done (c .before .before .before .before .before .before .before .before .before .before .before .before .before .before .before .before .before .before .before .before .args .s .now) _ _ _ _ (c .before .before .before .before .before .before .before .before .before .before .before .before .before .before .before .before .white-end .ensures) (root-agrees _ (c .before .before .before .before .before .before .before .before .before .before .before .before .before .before .before .element-at .ensures) (c .before .before .before .before .before .before .before .before .before .before .before .before .before .before .before .before .before .before .before .before .args .s .now) (c .before .before .before .before .before .before .before .before .before .before .before .before .before .before .before .before .white-end .result) _ (c .before .before .before .before .before .before .before .before .before .before .before .before .before .before .opens .ensures))
+          (omega (arith, root-length _ (c .before .before .before .before .before .before .before .before .before .before .before .before .before .before .before .element-at .ensures), c .before .before .before .before .before .before .before .before .before .before .before .before .if1 .left)) _ _ _ _ (c .before .before .before .before .before .before .before .before .before .read-element .ensures .1 Document document-held) _ _ _ (c .before .before .before .p2 .given .1)
+          (c .before .white-end2 .ensures) (c .if2 .left),
+    )
 
 pub read-root-spec : {M : Type 1} → statement M
 read-root-spec =

@@ -6,13 +6,14 @@ use native.Mathlib.Omega.{arith}
 use mathlib.Core.Path.{refl, ap, sym, subst, _∙_}
 use lib.ListN.{length}
 use Rattle.tree.specs.Form.{white}
-use Rattle.step.proofs.Bounds.{within-more}
+use Rattle.state.proofs.Bounds.{within-more}
 use Rattle.reader.specs.declared.walk.Reading.the-variants.{Ended}
 use Rattle.reader.specs.declared.walk.Reading.{Reading}
 use Rattle.table.specs.declared.Element.{Element}
 use Rattle.reader.specs.Told.{told, Fine, closed}
 use Rattle.scan.proofs.Scans.{common-in, run-in}
 use Rattle.table.specs.Table.{rowsEnd}
+use Rattle.table.proofs.Fits.{fits}
 use Rattle.table.proofs.Held.{placed, led}
 use Rattle.reader.proofs.Going.{Kept, room-is, going-start, going-skip, going-stuck, going-child, going-lost, going-close, element-read, fine-from, closed-fine}
 use borrow.Fn.Kinds.{In}
@@ -30,7 +31,7 @@ use Rattle.table.proofs.element_at.Reads as element-at-reads
 use Rattle.table.proofs.opens.Reads as opens-reads
 use Rattle.table.proofs.row_at.Reads as row-at-reads
 use Rattle.reader.proofs.walk.read_close.Reads as read-close-reads
-use Rattle.step.proofs.on_event.Reads as on-event-reads
+use Rattle.fill.proofs.on_event.Reads as on-event-reads
 use Rattle.reader.proofs.walk.+read_children+read_element.{statement}
 use Rattle.reader.proofs.walk.+read_children+read_element.Tie.{close}
 
@@ -231,7 +232,7 @@ read-children-loop-again-2 t c =
       behind = omega arith;
       inside = w .1;
       row = r .next;
-      bounds = within-more _ _ _ (w .0) (f .1 .1);
+      bounds = within-more (f .1 .1) (w .0);
       slips-long = search needs;
       rows-long = search needs;
       going = λ d h. going-child (c .before .before .before .before .before .before .before .before .before .before .before .before .before .before .before .before .before .before .before .before .before .before .args .s .now) _ d _ _ _ _ _ _ _ (c .before .before .before .before .before .before .before .before .before .before .before .before .before .before .before .before .loop-test .taken) (c .before .before .before .before .before .before .before .before .before .before .before .before .before .before .before .row-at .ensures) (c .before .before .before .before .before .before .before .before .before .before .before .before .before .before .element-at2 .ensures) (c .before .before .before .before .before .before .before .before .before .before .before .before .before .opens .ensures) (c .before .before .before .before .before .before .before .before .before .before .before .if1 .left) _ _ _
@@ -280,7 +281,8 @@ read-element-on-event-requires t c κs =
     let q = room-is _ _ _ _ _ (c .before .before .before .before .before .before .before .before .pre .1) (c .before .before .before .before .element-at .ensures) in
     let p = placed _ _ (c .before .before .before .before .before .before .before .before .pre .1 .known) (c .before .before .before .before .element-at .ensures) in
     let w = run-in _ _ _ _ q (c .before .before .run-end .ensures) in
-    (c .before .before .before .before .before .before .before .before .pre .1 .short, (omega arith, (omega arith, c .before .before .before .before .before .before .before .before .pre .1 .bounds)))
+    let f = fits _ _ (c .before .before .before .before .before .before .before .before .pre .1 .known) (c .before .before .before .before .element-at .ensures) in
+    (c .before .before .before .before .before .before .before .before .pre .1 .short, omega arith, omega arith, c .before .before .before .before .before .before .before .before .pre .1 .bounds, record { amount = f .amount; scheme = f .scheme; sequence = f .sequence })
 
 read-element-read-children-requires : (t : ℕ) → read-element-lts.Need-read-children-requires (read-element-calls t) (read-element-at t) read-element.Post
 read-element-read-children-requires t c κs =
@@ -288,7 +290,7 @@ read-element-read-children-requires t c κs =
     let p = placed _ _ (c .before .before .before .before .before .before .before .before .before .before .before .before .before .before .before .pre .1 .known) (c .before .before .before .before .before .before .before .before .before .before .before .element-at .ensures) in
     let w = run-in _ _ _ _ q (c .before .before .before .before .before .before .before .before .before .run-end .ensures) in
     let m = c .before .before .before .before .before .before .before .before .before .before .before .before .before .before .before .pre .0 in
-    (omega arith, record { short = c .before .before .before .before .before .before .before .before .before .before .before .before .before .before .before .pre .1 .short; known = c .before .before .before .before .before .before .before .before .before .before .before .before .before .before .before .pre .1 .known; room = w .1; bounds = within-more _ _ _ (w .0) (c .before .before .before .before .before .before .on-event .ensures .0) })
+    (omega arith, record { short = c .before .before .before .before .before .before .before .before .before .before .before .before .before .before .before .pre .1 .short; known = c .before .before .before .before .before .before .before .before .before .before .before .before .before .before .before .pre .1 .known; room = w .1; bounds = within-more (c .before .before .before .before .before .before .on-event .ensures .0) (w .0) })
 
 read-element-same-length : (t : ℕ) → read-element-lts.Need-same-length (read-element-calls t) (read-element-at t) read-element.Post
 read-element-same-length t c = search needs

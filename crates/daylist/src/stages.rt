@@ -1,0 +1,52 @@
+// The stages that go over all lines of a list.
+ghost use mathlib.Core.Path.{_≡_};
+ghost use Prim.Native.Nat.{_≤_};
+ghost use lib.ListN.{length};
+ghost use Rattle.profile.specs.Limits.{mostBytes};
+ghost use Rattle.frames.specs.Lines.{lines};
+ghost use Rattle.daylist.specs.Stages.{framesFrom, valuesFrom};
+use crate::JudgedList;
+use crate::values;
+use profile::ListRefusal;
+use text::Judged;
+
+// Stage 23: the first line that is not a frame of its kind, or lacks LF. Good tells the number of lines.
+pub fn judge_frames(list: &[u8]) -> JudgedList
+    ensures { λ r. ⌜ r ≡ framesFrom 0 (lines (now (list .entry))) ⌝ }
+{
+    let mut done = 0;
+    let mut at = 0;
+    while at < list.len() {
+        let end = at + frames::lines::line_length(&list[at..]);
+        if end == list.len() {
+            return JudgedList::Refused(ListRefusal::NotAFrame(done + 1));
+        }
+        if !frames::hex::is_hex(&list[at..end]) {
+            return JudgedList::Refused(ListRefusal::NotAFrame(done + 1));
+        }
+        if !frames::is_framed(&list[at..end], frames::frame_of(done + 1)) {
+            return JudgedList::Refused(ListRefusal::NotAFrame(done + 1));
+        }
+        done += 1;
+        at = end + 1;
+    }
+    JudgedList::Good(done)
+}
+
+// Stage 26: the first line of which a value breaks its rule. Good tells the number of lines.
+pub fn judge_values(list: &[u8]) -> JudgedList
+    requires { ⌜ length (now list) ≤ mostBytes ⌝ }
+    ensures { λ r. ⌜ r ≡ valuesFrom 0 (lines (now (list .entry))) ⌝ }
+{
+    let mut done = 0;
+    let mut at = 0;
+    while at < list.len() {
+        let end = at + frames::lines::line_length(&list[at..]);
+        if let Judged::Bad(flaw) = values::judge_line(&list[at..end], done + 1) {
+            return JudgedList::Refused(ListRefusal::Value(flaw, done + 1));
+        }
+        done += 1;
+        at = end + 1;
+    }
+    JudgedList::Good(done)
+}

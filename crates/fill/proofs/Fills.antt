@@ -1,0 +1,146 @@
+-- WHAT EACH ARM OF THE CODE LEAVES IN A TABLE is what the definitions say there, in plain variables.
+--   put-none, put-lent            no room; the part that was lent comes back
+--   slip-none, slip-unbegun, slip-some   the open transaction, none, or one outside of a batch, or one in a batch
+--   row-said, row-length          a batch's eight numbers
+--   row-none, row-some            no batch is open, or one
+--   slip-small                    the place of a slip is small
+--   told-fits, told-within        what the step asks of an event, and what it keeps
+--   event-batch, event-transaction, event-other   the step, by the part of the event
+use Prim.Native.Nat.{ℕ, zero, suc, _+_, _*_, _-_, _≤_, _<_}
+use native.Mathlib.Omega.{arith}
+use mathlib.Core.Bool.{Bool, true, false}
+use mathlib.Core.List.{List, [], _∷_, _++_}
+use mathlib.Core.Path.{_≡_, refl, ap, sym, _∙_}
+use borrow.Author.Tests.{ne-eqb, eq-eqb, le-leb, lt-leb}
+use lib.ListN.{length, take, drop}
+use Rattle.laws.specs.Bytes.{Bytes}
+use Rattle.laws.proofs.Puts.{put-back}
+use Rattle.profile.specs.Limits.{mostBytes}
+use Rattle.profile.specs.declared.ControlSum.{ControlSum}
+use Rattle.profile.specs.declared.DeclaredCount.{DeclaredCount}
+use Rattle.profile.specs.declared.DeclaredCount.the-variants.{Count, Absent as NoCount}
+use Rattle.profile.specs.declared.DeclaredSum.{DeclaredSum}
+use Rattle.profile.specs.declared.DeclaredSum.the-variants.{Cents, Absent as NoSum}
+use Rattle.profile.specs.declared.Batch.{Batch}
+use Rattle.profile.specs.declared.Tally.{Tally}
+use Rattle.tree.specs.declared.Event.{Event}
+use Rattle.tree.specs.Parts as part
+use Rattle.message.specs.declared.Told.{Told}
+use Rattle.message.specs.Message.{is, told}
+use Rattle.state.specs.declared.Open.{Open}
+use Rattle.state.specs.declared.Open.the-variants.{Nothing, Cents as OpenCents}
+use Rattle.state.specs.declared.Slip.{Slip}
+use Rattle.state.specs.declared.State.{State}
+use Rattle.state.specs.State.{pick, closeIf, settled, adding, step}
+use Rattle.state.specs.Fill.{slipNumbers, countNumbers, sumNumbers, rowNumbers, putIf, putSlip, Carried, filledSlips, filledRows, carryStep, stepOf, Within, Sane, Fit}
+use Rattle.fill.specs.declared.Declared.{Declared}
+use Rattle.fill.proofs.Sane.{told-sane}
+
+-- ─── one row ───
+
+close-some : {A : Type 0} (k : ℕ) (a b : A) → (k ≡ 0 → ⊥) → b ≡ closeIf k a b
+close-some zero a b h = absurd (h refl)
+close-some (suc n) a b h = refl
+
+module _ (out : List ℕ) (a n : ℕ) (xs : List ℕ) where
+  pub put-none : length out < a + n → out ≡ putIf out a n xs
+  put-none h = rw (lt-leb (a + n) (length out) h) refl
+
+  pub put-lent : (ys : List ℕ) → a + n ≤ length out → length xs ≡ n → ys ≡ xs → take a out ++ (ys ++ drop (a + n - a) (drop a out)) ≡ putIf out a n xs
+  put-lent ys h z y = rw y (put-back out xs a (a + n) (omega arith) (omega arith) ∙ sym (rw (le-leb (a + n) (length out) h) refl))
+
+module _ (k m n : ℕ) (s : Slip) (out : List ℕ) (o : Open) where
+  pub slip-none : o ≡ Nothing → out ≡ putSlip k m n s out o
+  slip-none e = rw e refl
+
+  pub slip-unbegun : k ≡ 0 → out ≡ putSlip k m n s out o
+  slip-unbegun h = go o
+    where
+      go : (o : Open) → out ≡ putSlip k m n s out o
+      go Nothing = refl
+      go (OpenCents c) = rw h refl
+
+  pub slip-some : (c : ControlSum) (r : List ℕ) → (k ≡ 0 → ⊥) → o ≡ OpenCents c → r ≡ putIf out (12 * (m + n)) 12 (slipNumbers k c s) → r ≡ putSlip k m n s out o
+  slip-some c r h e f = rw e (f ∙ close-some k _ _ h)
+
+pub slip-small : (st : State) (c : ControlSum) → st .«open» ≡ OpenCents c → Within mostBytes st → st .tally .closed .transactions .0 + st .tally .batch .count .0 ≤ mostBytes
+slip-small st c e w = go (st .«open») e (w .counted)
+  where
+    go : (o : Open) → o ≡ OpenCents c → st .tally .closed .transactions .0 + adding (st .tally .batch) o .count .0 ≤ mostBytes
+        → st .tally .closed .transactions .0 + st .tally .batch .count .0 ≤ mostBytes
+    go Nothing e h = h
+    go (OpenCents d) e h = omega arith
+
+pub row-said : (m : ℕ) (b : Batch) (u v : ℕ) (x y : Declared) → x .mark ∷ x .value ∷ [] ≡ countNumbers (b .«declared_count») → y .mark ∷ y .value ∷ [] ≡ sumNumbers (b .«declared_sum»)
+    → m ∷ b .count .0 ∷ b .sum .0 ∷ x .mark ∷ x .value ∷ y .mark ∷ y .value ∷ (4 * u + v) ∷ [] ≡ rowNumbers m b u v
+row-said m b u v x y e f = rw (← e, ← f) refl
+
+pub row-length : (m : ℕ) (b : Batch) (u v : ℕ) → length (rowNumbers m b u v) ≡ 8
+row-length m b u v = go (b .«declared_count») (b .«declared_sum»)
+  where
+    go : (c : DeclaredCount) (d : DeclaredSum) → length (m ∷ b .count .0 ∷ b .sum .0 ∷ (countNumbers c ++ (sumNumbers d ++ ((4 * u + v) ∷ [])))) ≡ 8
+    go NoCount NoSum = refl
+    go NoCount (Cents c) = refl
+    go (Count n) NoSum = refl
+    go (Count n) (Cents c) = refl
+
+module _ (st : State) (out : List ℕ) where
+  abbrev there : Carried
+  there = record { state = st; slips = []; rows = out }
+
+  pub row-none : st .batches .count ≡ 0 → out ≡ filledRows there
+  row-none h = rw h refl
+
+  pub row-some : (y : Tally) (r : List ℕ) → (st .batches .count ≡ 0 → ⊥) → y ≡ settled (st .tally) (st .«open»)
+      → r ≡ putIf out (8 * st .tally .closed .batches) 8 (rowNumbers (st .tally .closed .transactions .0) (y .batch) (st .scheme) (st .sequence))
+      → r ≡ filledRows there
+  row-some y r h e f =
+      f ∙ ap (λ (x : Tally). putIf out (8 * st .tally .closed .batches) 8 (rowNumbers (st .tally .closed .transactions .0) (x .batch) (st .scheme) (st .sequence))) e
+      ∙ close-some (st .batches .count) _ _ h
+
+-- ─── the step ───
+
+-- what is carried, by the tests whether the event is a batch, and a transaction
+module _ (st : State) (xs ys slips rows : List ℕ) (z w : Bool) where
+  abbrev carried : Carried
+  carried = record { state = st; slips = pick z xs (pick w xs slips); rows = pick z ys rows }
+
+  carry-batch : z ≡ true → carried ≡ record { state = st; slips = xs; rows = ys }
+  carry-batch e = rw e refl
+
+  carry-transaction : z ≡ false → w ≡ true → carried ≡ record { state = st; slips = xs; rows = rows }
+  carry-transaction e f = rw (e, f) refl
+
+  carry-other : z ≡ false → w ≡ false → carried ≡ record { state = st; slips = slips; rows = rows }
+  carry-other e f = rw (e, f) refl
+
+module _ (s : Bytes) (e : Event) (t : Told) (f : t ≡ told s e) where
+  pub told-fits : (st : State) → (length s ≤ mostBytes) × (e .start + e .length ≤ length s) × (e .place < e .start) × Within (e .place) st × Fit e
+      → (t .start ≤ mostBytes) × ((t .place < t .start) × (Within (t .place) st × Sane t))
+  told-fits st h = rw f (omega arith, (h .2, (h .3, told-sane s e (h .4))))
+
+  pub told-within : (r : State) → Within (t .start) r → Within (e .start) r
+  told-within r w = rw f at w
+
+  module _ (st r : State) (slips rows : List ℕ) (g : r ≡ step st t) where
+    abbrev entry : Carried
+    entry = record { state = st; slips = slips; rows = rows }
+
+    abbrev parts : Bool → Bool → Carried
+    parts = carried (step st t) (filledSlips entry) (filledRows entry) slips rows
+
+    taken : stepOf s entry e ≡ parts (is part.batch t) (is part.transaction t)
+    unfolding stepOf
+    taken = ap (carryStep entry) (sym f)
+
+    pub event-batch : (xs ys : List ℕ) → t .part ≡ part.batch → xs ≡ filledSlips entry → ys ≡ filledRows entry → stepOf s entry e ≡ record { state = r; slips = xs; rows = ys }
+    event-batch xs ys p x y = taken ∙ carry-batch (step st t) (filledSlips entry) (filledRows entry) slips rows (is part.batch t) (is part.transaction t) (eq-eqb (t .part) part.batch p) ∙ rw (g, x, y) refl
+
+    pub event-transaction : (xs : List ℕ) → (t .part ≡ part.batch → ⊥) → t .part ≡ part.transaction → xs ≡ filledSlips entry
+        → stepOf s entry e ≡ record { state = r; slips = xs; rows = rows }
+    event-transaction xs n p x =
+        taken ∙ carry-transaction (step st t) (filledSlips entry) (filledRows entry) slips rows _ _ (ne-eqb (t .part) part.batch n) (eq-eqb (t .part) part.transaction p) ∙ rw (g, x) refl
+
+    pub event-other : (t .part ≡ part.batch → ⊥) → (t .part ≡ part.transaction → ⊥) → stepOf s entry e ≡ record { state = r; slips = slips; rows = rows }
+    event-other n p =
+        taken ∙ carry-other (step st t) (filledSlips entry) (filledRows entry) slips rows _ _ (ne-eqb (t .part) part.batch n) (ne-eqb (t .part) part.transaction p) ∙ rw g refl

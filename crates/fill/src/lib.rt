@@ -1,0 +1,193 @@
+// The tables: a transaction's slip and a batch's row, put into the lent tables when they are complete, and the step that the reader takes at an event.
+ghost use mathlib.Core.Path.{_≡_};
+ghost use mathlib.Core.List.{[], _∷_};
+ghost use Prim.Native.Nat.{_+_, _*_, _≤_, _<_};
+ghost use lib.ListN.{length};
+ghost use Rattle.profile.specs.Limits.{mostBytes};
+ghost use Rattle.tree.specs.declared.Event.{Event};
+ghost use Rattle.state.specs.Fill.{countNumbers, sumNumbers, slipNumbers, rowNumbers, putIf, filledSlips, filledRows, stepOf, Carried, Within, Fit};
+use profile::Batch;
+use profile::ControlSum;
+use profile::DeclaredCount;
+use profile::DeclaredSum;
+use state::Open;
+use state::Part;
+use state::Slip;
+use state::State;
+use tree::Event;
+
+// ─── a transaction's slip ───
+
+// Fills the row of a transaction of the batch `k`: the whole of the part that it is lent.
+fn fill_slip(row: &mut [u64], k: u64, cents: ControlSum, s: Slip)
+    requires { ⌜ length (now row) ≡ 12 ⌝ }
+    ensures { λ _. ⌜ now (row .exit) ≡ slipNumbers k cents s ⌝ }
+{
+    row[0] = k;
+    row[1] = cents.0;
+    row[2] = s.end_to_end.start as u64;
+    row[3] = s.end_to_end.length as u64;
+    row[4] = s.mandate.start as u64;
+    row[5] = s.mandate.length as u64;
+    row[6] = s.debtor_name.start as u64;
+    row[7] = s.debtor_name.length as u64;
+    row[8] = s.debtor_account.start as u64;
+    row[9] = s.debtor_account.length as u64;
+    row[10] = s.remittance.start as u64;
+    row[11] = s.remittance.length as u64;
+}
+
+// The row of a transaction at the place `a` of the table, where there is room.
+fn slip_at(slips: &mut [u64], a: usize, k: u64, cents: ControlSum, s: Slip)
+    requires { ⌜ a ≤ 12 * mostBytes ⌝ }
+    ensures { λ _. ⌜ now (slips .exit) ≡ putIf (now (slips .entry)) a 12 (slipNumbers k cents s) ⌝ }
+{
+    if slips.len() < a + 12 {
+        return;
+    }
+    fill_slip(&mut slips[a..a + 12], k, cents, s);
+}
+
+// The row of the open transaction, where there is one, and a batch that it is in.
+pub fn put_slip(state: State, slips: &mut [u64])
+    requires { ⌜ Within mostBytes state ⌝ }
+    ensures { λ _. ⌜ now (slips .exit) ≡ filledSlips (record { state = state; slips = now (slips .entry); rows = [] }) ⌝ }
+{
+    if state.batches.count == 0 {
+        return;
+    }
+    let open = state.open;
+    match open {
+        Open::Nothing => {}
+        Open::Cents(cents) => {
+            let before = state.tally.closed.transactions.0;
+            let n = state.tally.batch.count.0;
+            let k = state.batches.count;
+            let slip = state.slip;
+            slip_at(slips, 12 * (before + n) as usize, k, cents, slip);
+        }
+    }
+}
+
+// ─── a batch's row ───
+
+// A declaration in a row: 1 or 0 for it, and what it tells or 0.
+pub struct Declared {
+    pub mark: u64,
+    pub value: u64,
+}
+
+fn count_numbers(d: DeclaredCount) -> Declared
+    ensures { λ r. ⌜ r .mark ∷ r .value ∷ [] ≡ countNumbers d ⌝ }
+{
+    match d {
+        DeclaredCount::Absent => Declared { mark: 0, value: 0 },
+        DeclaredCount::Count(n) => Declared {
+            mark: 1,
+            value: n.0,
+        },
+    }
+}
+
+fn sum_numbers(d: DeclaredSum) -> Declared
+    ensures { λ r. ⌜ r .mark ∷ r .value ∷ [] ≡ sumNumbers d ⌝ }
+{
+    match d {
+        DeclaredSum::Absent => Declared { mark: 0, value: 0 },
+        DeclaredSum::Cents(c) => Declared {
+            mark: 1,
+            value: c.0,
+        },
+    }
+}
+
+// Fills the row of the batch `b`, with `before` transactions before it: the whole of the part that it is lent.
+fn fill_row(row: &mut [u64], before: u64, b: Batch, scheme: u64, sequence: u64)
+    requires { ⌜ (length (now row) ≡ 8) × (scheme ≤ 3) × (sequence ≤ 3) ⌝ }
+    ensures { λ _. ⌜ now (row .exit) ≡ rowNumbers before b scheme sequence ⌝ }
+{
+    let declared_count = b.declared_count;
+    let declared_sum = b.declared_sum;
+    let x = count_numbers(declared_count);
+    let y = sum_numbers(declared_sum);
+    row[0] = before;
+    row[1] = b.count.0;
+    row[2] = b.sum.0;
+    row[3] = x.mark;
+    row[4] = x.value;
+    row[5] = y.mark;
+    row[6] = y.value;
+    row[7] = 4 * scheme + sequence;
+}
+
+// The row of a batch at the place `a` of the table, where there is room.
+fn row_at(rows: &mut [u64], a: usize, before: u64, b: Batch, scheme: u64, sequence: u64)
+    requires { ⌜ (a ≤ 8 * mostBytes) × (scheme ≤ 3) × (sequence ≤ 3) ⌝ }
+    ensures { λ _. ⌜ now (rows .exit) ≡ putIf (now (rows .entry)) a 8 (rowNumbers before b scheme sequence) ⌝ }
+{
+    if rows.len() < a + 8 {
+        return;
+    }
+    fill_row(&mut rows[a..a + 8], before, b, scheme, sequence);
+}
+
+// The row of the open batch, where there is one.
+pub fn put_row(state: State, rows: &mut [u64])
+    requires { ⌜ Within mostBytes state ⌝ }
+    ensures { λ _. ⌜ now (rows .exit) ≡ filledRows (record { state = state; slips = []; rows = now (rows .entry) }) ⌝ }
+{
+    if state.batches.count == 0 {
+        return;
+    }
+    let tally = state.tally;
+    let open = state.open;
+    let all = state::settle(tally, open);
+    let batch = all.batch;
+    let before = tally.closed.transactions.0;
+    row_at(
+        rows,
+        8 * tally.closed.batches as usize,
+        before,
+        batch,
+        state.scheme,
+        state.sequence,
+    );
+}
+
+// ─── the step ───
+
+// The state after an event of the message. A row that the event completes is put into its table.
+pub fn on_event(
+    state: State,
+    message: &[u8],
+    slips: &mut [u64],
+    rows: &mut [u64],
+    event: Event,
+) -> State
+    requires { ⌜ (length (now message) ≤ mostBytes) × (event .start + event .length ≤ length (now message)) × (event .place < event .start) × Within (event .place) state × Fit event ⌝ }
+    ensures within { λ r. ⌜ Within (event .start) r ⌝ }
+    ensures exact { λ r. ⌜ stepOf (now (message .entry)) (record { state = state; slips = now (slips .entry); rows = now (rows .entry) }) event
+        ≡ record { state = r; slips = now (slips .exit); rows = now (rows .exit) } ⌝ }
+{
+    let t = message::tell(message, event);
+    if t.part == Part::BATCH {
+        put_slip(state, slips);
+        put_row(state, rows);
+        return state.step(t);
+    }
+    if t.part == Part::TRANSACTION {
+        put_slip(state, slips);
+        return state.step(t);
+    }
+    state.step(t)
+}
+
+// Behind the last event: the last rows.
+pub fn finish(state: State, slips: &mut [u64], rows: &mut [u64])
+    requires { ⌜ Within mostBytes state ⌝ }
+    ensures slips { λ _. ⌜ now (slips .exit) ≡ filledSlips (record { state = state; slips = now (slips .entry); rows = now (rows .entry) }) ⌝ }
+    ensures rows { λ _. ⌜ now (rows .exit) ≡ filledRows (record { state = state; slips = now (slips .entry); rows = now (rows .entry) }) ⌝ }
+{
+    put_slip(state, slips);
+    put_row(state, rows);
+}

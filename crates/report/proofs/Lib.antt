@@ -1,0 +1,1 @@
+-- The functions' proofs stand in their folders.

@@ -1,0 +1,82 @@
+// What the check of a message comes to, as printed lines: `OK` with batches, transactions and cents, and a line `B` for each batch; or `NO` with number and place.
+ghost use mathlib.Core.Path.{_≡_};
+ghost use lib.ListN.{length};
+use libc::STDOUT_FILENO;
+use profile::Refusal;
+use profile::Totals;
+use state::Checked;
+
+pub fn print(text: &[u8]) {
+    io::write_all(STDOUT_FILENO, text);
+}
+
+// A number, behind a space.
+fn print_number(n: u64) {
+    print(b" ");
+    io::print_decimal(STDOUT_FILENO, n);
+}
+
+// What is declared, or `-` where it is absent.
+fn print_declared(mark: u64, n: u64) {
+    if mark == 0 {
+        print(b" -");
+    } else {
+        print_number(n);
+    }
+}
+
+// The batch `k` from its row.
+fn print_batch(k: u64, row: &[u64])
+    requires { ⌜ length (now row) ≡ 8 ⌝ }
+{
+    print(b"B");
+    print_number(k);
+    print_number(row[1]);
+    print_number(row[2]);
+    print_declared(row[3], row[4]);
+    print_declared(row[5], row[6]);
+    print(b"\n");
+}
+
+// The batches of the table, one line each.
+fn print_batches(batches: u64, rows: &[u64]) {
+    let mut k = 0;
+    let mut at = 0;
+    while k < batches {
+        if rows.len() - at < 8 {
+            return;
+        }
+        k += 1;
+        print_batch(k, &rows[at..at + 8]);
+        at += 8;
+    }
+}
+
+fn print_refusal(refusal: Refusal) {
+    print(b"NO");
+    print_number(refusal.number());
+    print_number(refusal.place() as u64);
+    print(b"\n");
+}
+
+fn print_totals(totals: Totals) {
+    print(b"OK");
+    print_number(totals.batches);
+    print_number(totals.transactions.0);
+    print_number(totals.cents.0);
+    print(b"\n");
+}
+
+// The check of a message. The tables have room for every message that the profile allows.
+pub fn print_check(message: &[u8]) {
+    let mut slips = [0u64; 24000];
+    let mut rows = [0u64; 512];
+    let checked = checking::check(message, &mut slips, &mut rows);
+    match checked {
+        Checked::Refused(refusal) => print_refusal(refusal),
+        Checked::Accepted(totals) => {
+            print_totals(totals);
+            print_batches(totals.batches, &rows);
+        }
+    }
+}

@@ -1,0 +1,16 @@
+-- `state::State::added` meets its contract.
+use borrow.Author.Needs.{needs}
+use Rattle.state.proofs.State.added.Statement.{statement}
+use Rattle.state.proofs.State.added.Tie as tie
+
+settle-requires : tie.Need-settle-requires
+settle-requires c κs = search needs
+
+fresh-requires : tie.Need-fresh-requires
+fresh-requires c κs = search needs
+
+returns : tie.Need-returns
+returns c = cc
+
+pub added-spec : {M : Type 1} → statement M
+added-spec = tie.close (tie.spec settle-requires fresh-requires returns)

@@ -1,0 +1,19 @@
+-- `state::State::began` meets its contract.
+use borrow.Author.Needs.{needs}
+use Rattle.state.proofs.State.began.Statement.{statement}
+use Rattle.state.proofs.State.began.Tie as tie
+
+faulted-requires : tie.Need-faulted-requires
+faulted-requires c κs = search needs
+
+tallied-requires : tie.Need-tallied-requires
+tallied-requires c κs = search needs
+
+fresh-requires : tie.Need-fresh-requires
+fresh-requires c κs = search needs
+
+returns : tie.Need-returns
+returns c = cc
+
+pub began-spec : {M : Type 1} → statement M
+began-spec = tie.close (tie.spec faulted-requires tallied-requires fresh-requires returns)

@@ -1,0 +1,315 @@
+//! Tests of the text rules and of refusal 5.
+
+use crate::random::Random;
+use crate::rules::{amount, count, moved_digits, remainder_by_97, sum, Rule, LETTERS};
+use crate::selftest::Bench;
+use crate::test_form::{with, Tester, GOOD};
+use crate::vectors::MESSAGE;
+
+pub fn run(bench: &mut Bench) {
+    stars(bench);
+    letter_set(bench);
+    plain_texts(bench);
+    numbers(bench);
+    dates(bench);
+    every_day(bench);
+    codes(bench);
+    identifications(bench);
+    remainders(bench);
+    refusals(bench);
+}
+
+fn judge(bench: &mut Bench, rule: Rule, good: &[&str], bad: &[&str]) {
+    for text in good {
+        let name = format!("{rule:?} allows {text:?}");
+        bench.holds(&name, rule.allows(text.as_bytes()));
+    }
+    for text in bad {
+        let name = format!("{rule:?} refuses {text:?}");
+        bench.holds(&name, !rule.allows(text.as_bytes()));
+    }
+}
+
+fn stars(bench: &mut Bench) {
+    let good_ibans = ["GB29NWBK60161331926819", "BE30001216371411"];
+    judge(
+        bench,
+        Rule::Iban,
+        &good_ibans,
+        &["FR7610041010050500013M02606"],
+    );
+    let french = remainder_by_97(b"FR7610041010050500013M02606");
+    bench.same("★5 leaves 6", french, 6);
+    let bad_amounts = ["1000000000", "0.00", "1.", ".5"];
+    judge(bench, Rule::Amount, &["999999999.99"], &bad_amounts);
+    judge(bench, Rule::Sum, &["0"], &["3250.150"]);
+    judge(bench, Rule::Date, &["2000-02-29"], &["1900-02-29"]);
+    judge(bench, Rule::Id, &["A/B"], &["A//B", "/A"]);
+    judge(bench, Rule::Bic, &["BANKGB2L"], &["NOTPROVIDED"]);
+}
+
+fn letter_set(bench: &mut Bench) {
+    bench.same("letters", LETTERS.len(), 26 + 26 + 10 + 11);
+    let wrong = (0..=255).find(|&byte: &u8| {
+        let due = byte.is_ascii_alphanumeric() || b"/-?:().,'+ ".contains(&byte);
+        Rule::Name.allows(&[byte]) != due || Rule::Remittance.allows(&[b'A', byte]) != due
+    });
+    bench.same("each byte in a name", wrong, None);
+    let wrong = (0..=255).find(|&byte: &u8| {
+        let due = byte != b'/' && Rule::Name.allows(&[byte]);
+        Rule::Id.allows(&[byte]) != due
+    });
+    bench.same("each byte as an id", wrong, None);
+}
+
+fn plain_texts(bench: &mut Bench) {
+    for (rule, longest) in [(Rule::Id, 35), (Rule::Name, 70), (Rule::Remittance, 140)] {
+        let texts = [1, longest].map(|length| "a".repeat(length));
+        let long = "a".repeat(longest + 1);
+        let blanks = " ".repeat(longest);
+        let good = [&texts[0], &texts[1], &blanks, " ", "A ", " A", "A/B/C", "-"];
+        judge(bench, rule, &good, &["", &long, "A\nB", "A\tB", "\u{e9}"]);
+    }
+    let slashes = ["/", "//", "/A", "A/", "A//B", "A/B//C/D", "A///B"];
+    judge(bench, Rule::Id, &["A/ /B", " /A", "A/ "], &slashes);
+    judge(bench, Rule::Name, &slashes, &[]);
+    judge(bench, Rule::Remittance, &slashes, &[]);
+    let mut long = vec![b'/'; 35];
+    long[34] = 0xFC;
+    bench.holds("slashes and a strange byte", !Rule::Id.allows(&long));
+}
+
+fn numbers(bench: &mut Bench) {
+    let strange = [
+        "", ".", " 1", "1 ", "+1", "-1", "1,0", "1e3", "1A", "1/", "1:", "\u{661}",
+    ];
+    let good = ["0", "000", "7", "999999999999999", "000000000000002"];
+    judge(bench, Rule::Count, &good, &strange);
+    judge(bench, Rule::Count, &[], &["1000000000000000", "1.0", "1."]);
+    let good = ["0.0", "5.5", "999999999999999.99", "000000000000001.1"];
+    judge(bench, Rule::Sum, &good, &strange);
+    let bad = ["1000000000000000", "1.", ".5", "1.000", "1.2.3", "1..2"];
+    judge(bench, Rule::Sum, &[], &bad);
+    let good = ["0.01", "000000000.01", "000000001", "1", "1.5", "999999999"];
+    judge(bench, Rule::Amount, &good, &strange);
+    let bad = ["0", "0.0", "0000000001", "0000000000.01", "1.000", "1.5."];
+    judge(bench, Rule::Amount, &[], &bad);
+    bench.same("leading zeros", count(b"000000000000002"), Some(2));
+    let spellings = ["3280", "3280.0", "3280.00", "000003280.0"];
+    let values = spellings.map(|text| sum(text.as_bytes()));
+    bench.same("spellings of a sum", values, [Some(328_000); 4]);
+    bench.same(
+        "the greatest sum",
+        sum(b"999999999999999.99"),
+        Some(99_999_999_999_999_999),
+    );
+    bench.same("5.5", sum(b"5.5"), Some(550));
+    bench.same("amount of 0.07", amount(b"0.07"), Some(7));
+    bench.same("amount of 0.7", amount(b"0.7"), Some(70));
+}
+
+fn dates(bench: &mut Bench) {
+    let good = ["1900-01-01", "2099-12-31", "2024-02-29", "2026-11-30"];
+    let bad = [
+        "1899-12-31",
+        "2100-01-01",
+        "2023-02-29",
+        "2026-11-31",
+        "2026-00-10",
+        "2026-13-10",
+        "2026-11-00",
+        "2026-2-1",
+        "2026-11-1O",
+        "2026/11/10",
+        "2026-11-10 ",
+        "20261110",
+        "",
+        "2026-11-10T00:00:00",
+        "+026-11-10",
+        "2026-1:-10",
+    ];
+    judge(bench, Rule::Date, &good, &bad);
+    let good = [
+        "2026-11-02T09:30:00",
+        "1900-01-01T00:00:00",
+        "2099-12-31T23:59:59",
+    ];
+    let bad = [
+        "2026-11-02T24:00:00",
+        "2026-11-02T23:60:00",
+        "2026-11-02T23:59:60",
+        "2026-11-02T09:30:00Z",
+        "2026-11-02T09:30",
+        "2026-11-02 09:30:00",
+        "2026-02-29T09:30:00",
+        "2026-11-02",
+        "2026-11-02T09:30:00.0",
+        "2026-11-02t09:30:00",
+        "",
+    ];
+    judge(bench, Rule::Time, &good, &bad);
+}
+
+/// Every year, month and day against the lengths of the months.
+fn every_day(bench: &mut Bench) {
+    let months = [31, 28, 31, 30, 31, 30, 31, 31, 30, 31, 30, 31];
+    let mut days = 0;
+    let mut wrong = Vec::new();
+    for year in 1890..=2110 {
+        let leap = year % 4 == 0 && (year % 100 != 0 || year % 400 == 0);
+        for (month, day) in (0..=99).flat_map(|month| (0..=99).map(move |day| (month, day))) {
+            let length = match month {
+                2 if leap => 29,
+                1..=12 => months[month - 1],
+                _ => 0,
+            };
+            let due = (1900..=2099).contains(&year) && (1..=length).contains(&day);
+            days += usize::from(due);
+            let text = format!("{year}-{month:02}-{day:02}");
+            if Rule::Date.allows(text.as_bytes()) != due {
+                wrong.push(text);
+            }
+        }
+    }
+    bench.same("every day", wrong, Vec::<String>::new());
+    bench.same("days of 1900 to 2099", days, 73_049);
+}
+
+fn codes(bench: &mut Bench) {
+    let scheme = Rule::OneOf(crate::profile::SCHEMES);
+    judge(
+        bench,
+        scheme,
+        &["CORE", "B2B"],
+        &["", "core", "COR1", "CORE ", "B2"],
+    );
+    let sequence = Rule::OneOf(crate::profile::SEQUENCES);
+    let good = ["FRST", "RCUR", "OOFF", "FNAL"];
+    judge(bench, sequence, &good, &["", "RPRE", "frst", "FRSTX"]);
+}
+
+fn identifications(bench: &mut Bench) {
+    let longest = remainder_one("GB", &"Z9".repeat(15));
+    let too_long = remainder_one("GB", &"Z9".repeat(16));
+    let good = [
+        "BE540",
+        "GB29nwbk60161331926819",
+        "BE68539007547034",
+        &longest,
+    ];
+    let bad = [
+        "",
+        "BE",
+        "BE54",
+        "gb29NWBK60161331926819",
+        "Gb29NWBK60161331926819",
+        "GB29NWBK60161331926818",
+        "GB30NWBK60161331926819",
+        "GB29 NWBK60161331926819",
+        "GB2ANWBK60161331926819",
+        &too_long,
+    ];
+    judge(bench, Rule::Iban, &good, &bad);
+    let good = [
+        "BANKGB2LXXX",
+        "1234GB56",
+        "NOTPROVI",
+        "NOTPROVIDEX",
+        "BBRUBEBB",
+    ];
+    let bad = [
+        "",
+        "BANKGB2",
+        "BANKGB2LX",
+        "BANKGB2LXX",
+        "BANKGB2LXXXX",
+        "bankGB2L",
+        "BANK1B2L",
+        "BANKG12L",
+        "BANKGB2l",
+        "BANKGB2LXX-",
+    ];
+    judge(bench, Rule::Bic, &good, &bad);
+    let longest = "BE69ZZZ".to_string() + &"9".repeat(28);
+    let too_long = longest.clone() + "9";
+    let good = [
+        "BE69000050D000000008",
+        "DE98ZZZ09999999999",
+        "FR00ZZZ123456",
+        "BE69ZZZ1",
+        &longest,
+    ];
+    let bad = [
+        "",
+        "BE69ZZZ",
+        "be69ZZZ1",
+        "BE69zzz1",
+        "BE69ZZZa",
+        "BE6AZZZ1",
+        "B169ZZZ1",
+        "BE69ZZZ 1",
+        &too_long,
+    ];
+    judge(bench, Rule::CreditorId, &good, &bad);
+}
+
+/// An IBAN with the check digits that make it leave 1.
+pub fn remainder_one(country: &str, account: &str) -> String {
+    let digits = (2..=98).map(|digits| format!("{country}{digits:02}{account}"));
+    let mut right = digits.filter(|text| remainder_by_97(text.as_bytes()) == 1);
+    right.next().unwrap()
+}
+
+/// The remainder once more, digit after digit.
+fn remainders(bench: &mut Bench) {
+    let known = [("DE98ZZZ09999999999", 4), ("FR00ZZZ123456", 4)];
+    let without_code = known.map(|(text, place)| [&text[..place], &text[7..]].concat());
+    let left = without_code.map(|text| remainder_by_97(text.as_bytes()));
+    bench.same("creditor identifiers leave 1 and 26", left, [1, 26]);
+    let mut random = Random::new(97, 0);
+    let wrong = (0..5000).find(|_| {
+        let length = random.within(5..=34);
+        let text = random.bytes(b"ABCXYZabcxyz0123456789", length);
+        let digits = moved_digits(&text);
+        let left = digits
+            .bytes()
+            .fold(0, |left, d| (10 * left + u32::from(d - b'0')) % 97);
+        left != remainder_by_97(&text)
+    });
+    bench.same("remainders", wrong, None);
+}
+
+fn refusals(bench: &mut Bench) {
+    let tester = Tester::new();
+    for text in ["F>E 1", "F&E 1", "F\0E 1", "", "/FEE", "FEE]]>", "F\u{e9}E"] {
+        let message = with(">FEE 1<", &format!(">{text}<"));
+        bench.same("bad EndToEndId", tester.answer(message), "NO 5 914");
+    }
+    let place = MESSAGE.find("NOTPROVIDED").unwrap();
+    let other = with("NOTPROVIDED", "NOTPROVIDEX");
+    bench.same(
+        "bad Id of a bank",
+        tester.answer(other),
+        format!("NO 5 {place}"),
+    );
+    let place = MESSAGE.find("BBRUBEBB").unwrap();
+    let banned = with("BBRUBEBB", "NOTPROVIDED");
+    bench.same(
+        "BICFI NOTPROVIDED",
+        tester.answer(banned),
+        format!("NO 5 {place}"),
+    );
+    let instruction = with("<PmtId>", "<PmtId><InstrId>A//B</InstrId>");
+    bench.same("bad InstrId", tester.answer(instruction), "NO 5 911");
+    let place = MESSAGE.find("GB29").unwrap();
+    let iban_and_count = with("GB29", "GB28").replacen("<NbOfTxs>2", "<NbOfTxs>3", 1);
+    bench.same(
+        "bad IBAN and wrong count",
+        tester.answer(iban_and_count),
+        format!("NO 5 {place}"),
+    );
+    let sixteen = with("<NbOfTxs>2", "<NbOfTxs>0000000000000002");
+    bench.same("16 digits", tester.answer(sixteen), "NO 5 203");
+    let name = with("O'Neil Testing", " ");
+    bench.same("a name of a space", tester.answer(name), GOOD);
+}
