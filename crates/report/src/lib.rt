@@ -11,7 +11,7 @@ pub fn print(text: &[u8]) {
 }
 
 // A number, behind a space.
-fn print_number(n: u64) {
+pub fn print_number(n: u64) {
     print(b" ");
     io::print_decimal(STDOUT_FILENO, n);
 }
@@ -67,16 +67,21 @@ fn print_totals(totals: Totals) {
     print(b"\n");
 }
 
-// The check of a message. The tables have room for every message that the profile allows.
-pub fn print_check(message: &[u8]) {
-    let mut slips = [0u64; 24000];
-    let mut rows = [0u64; 512];
-    let checked = checking::check(message, &mut slips, &mut rows);
+// The check of a message with these tables.
+pub fn print_checked(message: &[u8], slips: &mut [u64], rows: &mut [u64]) {
+    let checked = checking::check(message, slips, rows);
     match checked {
         Checked::Refused(refusal) => print_refusal(refusal),
         Checked::Accepted(totals) => {
             print_totals(totals);
-            print_batches(totals.batches, &rows);
+            print_batches(totals.batches, rows);
         }
     }
+}
+
+// The check of a message. The tables have room for every message that the profile allows.
+pub fn print_check(message: &[u8]) {
+    let mut slips = [0u64; 24000];
+    let mut rows = [0u64; 512];
+    print_checked(message, &mut slips, &mut rows);
 }

@@ -1,0 +1,41 @@
+// The check of the message on standard input with tables that are too short by one number, and with tables that are just long enough. Both tables are printed
+// whole: a refusal leaves them as they were, and what stands behind the last row stays.
+use libc::STDIN_FILENO;
+
+// The numbers of a table, in one line.
+fn print_table(table: &[u64]) {
+    let mut i = 0;
+    while i < table.len() {
+        report::print_number(table[i]);
+        i += 1;
+    }
+    report::print(b"\n");
+}
+
+// The check with so many numbers of each table lent.
+fn print_lent(message: &[u8], slips: &mut [u64], slips_room: usize, rows: &mut [u64], rows_room: usize) {
+    if slips.len() < slips_room {
+        return;
+    }
+    if rows.len() < rows_room {
+        return;
+    }
+    report::print_checked(message, &mut slips[..slips_room], &mut rows[..rows_room]);
+    print_table(slips);
+    print_table(rows);
+}
+
+fn print_room(message: &[u8], slips_room: usize, rows_room: usize) {
+    let mut slips = [7u64; 26];
+    let mut rows = [7u64; 10];
+    print_lent(message, &mut slips, slips_room, &mut rows, rows_room);
+}
+
+fn main() {
+    let mut message = [0u8; 16384];
+    let n = io::read_full(STDIN_FILENO, &mut message);
+    print_room(&message[..n], 23, 8);
+    print_room(&message[..n], 24, 7);
+    print_room(&message[..n], 23, 7);
+    print_room(&message[..n], 24, 8);
+}
