@@ -13,7 +13,13 @@ fn print_table(table: &[u64]) {
 }
 
 // The check with so many numbers of each table lent.
-fn print_lent(message: &[u8], slips: &mut [u64], slips_room: usize, rows: &mut [u64], rows_room: usize) {
+fn print_lent(
+    message: &[u8],
+    slips: &mut [u64],
+    slips_room: usize,
+    rows: &mut [u64],
+    rows_room: usize,
+) {
     if slips.len() < slips_room {
         return;
     }

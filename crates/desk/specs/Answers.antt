@@ -1,0 +1,21 @@
+-- WHAT THE FUNCTIONS OF THE DESK ANSWER, in numbers. To be believed; definitions only.
+--   checkedNumbers r         number 0 and the totals of an accepted message; the number and place of a refusal, and totals 0
+--   DeskChecks s slips rows r slips′ rows′   the check's promise (checking/specs/Check), its answer told in numbers
+use Prim.Native.Nat.{ℕ}
+use mathlib.Core.List.{List}
+use mathlib.Core.Path.{_≡_}
+use Rattle.laws.specs.Bytes.{Bytes}
+use Rattle.profile.specs.Refusals.{numberOf, placeOf}
+use Rattle.state.specs.declared.Checked.{Checked}
+use Rattle.state.specs.declared.Checked.the-variants.{Accepted, Refused}
+use Rattle.checking.specs.Check.{Checks}
+use Rattle.desk.specs.declared.DeskChecked.{DeskChecked}
+
+abbrev pub checkedNumbers : Checked → DeskChecked
+checkedNumbers (Accepted t) = record { number = 0; place = 0; batches = t .batches; transactions = t .transactions .0; cents = t .cents .0 }
+checkedNumbers (Refused f) = record { number = numberOf f; place = placeOf f; batches = 0; transactions = 0; cents = 0 }
+
+pub record DeskChecks (s : Bytes) (slips rows : List ℕ) (r : DeskChecked) (slips′ rows′ : List ℕ) : Type 0 where
+  pub checked : Checked
+  pub checks : Checks s slips rows checked slips′ rows′
+  pub numbers : r ≡ checkedNumbers checked

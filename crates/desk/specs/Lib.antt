@@ -1,0 +1,2 @@
+-- Answers   what the functions of the desk answer, in numbers
+pub mod Answers
