@@ -15,9 +15,9 @@ use Rattle.tree.proofs.Pain008.{unambiguous, place-one}
 use Rattle.message.specs.declared.Told.{Told}
 use Rattle.message.specs.Message.{tell}
 use Rattle.message.specs.Verdict.{Verdict, verdictOf, slipsOf, rowsOf}
-use Rattle.state.specs.declared.Checked.{Checked}
-use Rattle.state.specs.declared.Checked.the-variants.{Accepted, Refused}
-use Rattle.state.specs.State.{verdictSaid}
+use Rattle.answer.specs.declared.Checked.{Checked}
+use Rattle.answer.specs.declared.Checked.the-variants.{Accepted, Refused}
+use Rattle.answer.specs.Answer.{verdictSaid}
 use Rattle.checking.specs.Check.{saidBy, roomOf, after, Long, Stuck, Judged, Checks}
 
 -- two messages of the same bytes say the same

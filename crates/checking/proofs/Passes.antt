@@ -23,15 +23,17 @@ use Rattle.tree.specs.Pain008.{Document, declaration}
 use Rattle.message.specs.declared.Told.{Told}
 use Rattle.message.specs.Message.{tell, told}
 use Rattle.message.specs.Verdict.{Room, verdictOf, slipsOf, rowsOf}
-use Rattle.state.specs.declared.Checked.{Checked}
-use Rattle.state.specs.declared.Checked.the-variants.{Accepted, Refused}
+use Rattle.answer.specs.declared.Checked.{Checked}
+use Rattle.answer.specs.declared.Checked.the-variants.{Accepted, Refused}
 use Rattle.state.specs.declared.State.{State}
-use Rattle.state.specs.State.{fresh, step, answer, verdictSaid}
+use Rattle.state.specs.State.{fresh, step}
+use Rattle.answer.specs.Answer.{answer, verdictSaid}
 use Rattle.state.specs.Fill.{Carried, stepOf, carryStep, filledSlips, filledRows, Within}
 use Rattle.state.proofs.Bounds.{within-more}
 use Rattle.state.proofs.Fold.{fold, project}
-use Rattle.state.proofs.Right.{verdict-right}
-use Rattle.state.proofs.Rows.{slips-right, rows-right}
+use Rattle.answer.proofs.Right.{verdict-right}
+use Rattle.state.proofs.Rows.{rows-right}
+use Rattle.state.proofs.Slips.{slips-right}
 use Rattle.reader.specs.declared.Outcome.{Outcome}
 use Rattle.reader.specs.declared.Outcome.the-variants.{TooLong as LongOne, Stuck as StuckAt, Read as WasRead}
 use Rattle.reader.specs.Walk as walk

@@ -15,9 +15,9 @@ use Rattle.tree.specs.Pain008.{Document, declaration}
 use Rattle.message.specs.declared.Told.{Told}
 use Rattle.message.specs.Message.{tell}
 use Rattle.message.specs.Verdict.{Room, verdictOf, slipsOf, rowsOf}
-use Rattle.state.specs.declared.Checked.{Checked}
-use Rattle.state.specs.declared.Checked.the-variants.{Accepted, Refused}
-use Rattle.state.specs.State.{verdictSaid}
+use Rattle.answer.specs.declared.Checked.{Checked}
+use Rattle.answer.specs.declared.Checked.the-variants.{Accepted, Refused}
+use Rattle.answer.specs.Answer.{verdictSaid}
 
 abbrev pub saidBy : Message Document → List Told
 saidBy m = tell (message declaration m) (messageEvents declaration m)

@@ -13,9 +13,9 @@ use Rattle.profile.specs.declared.Refusal.the-variants.{TooLong, NotOfTheForm}
 use Rattle.tree.specs.Form.{Message, message, OfForm, IsPlace}
 use Rattle.tree.specs.Pain008.{Document, declaration}
 use Rattle.message.specs.Verdict.{Room, verdictOf, slipsOf, rowsOf}
-use Rattle.state.specs.declared.Checked.{Checked}
-use Rattle.state.specs.declared.Checked.the-variants.{Refused}
-use Rattle.state.specs.State.{verdictSaid}
+use Rattle.answer.specs.declared.Checked.{Checked}
+use Rattle.answer.specs.declared.Checked.the-variants.{Refused}
+use Rattle.answer.specs.Answer.{verdictSaid}
 use Rattle.checking.specs.Check.{saidBy, roomOf}
 use Rattle.checking.specs.Demand2.{Enough}
 

@@ -3,9 +3,9 @@ ghost use lib.ListN.{length};
 ghost use Rattle.message.specs.Verdict.{Room};
 ghost use Rattle.checking.specs.Check.{Checks};
 ghost use Rattle.checking.specs.Inner.{Verdicts, Fills};
+use answer::Checked;
 use profile::Refusal;
 use reader::Outcome;
-use state::Checked;
 use state::State;
 
 // The verdict on a message, where the tables have `slips` and `rows` numbers. Nothing is lent to be filled: `none` and `nil` have no length.
@@ -15,7 +15,7 @@ fn verdict(message: &[u8], none: &mut [u64], nil: &mut [u64], slips: usize, rows
     match reader::read(message, State::fresh(), none, nil) {
         Outcome::TooLong => Checked::Refused(Refusal::TooLong),
         Outcome::Stuck(place) => Checked::Refused(Refusal::NotOfTheForm(place)),
-        Outcome::Read(state) => state::answer(state, slips, rows),
+        Outcome::Read(state) => answer::answer(state, slips, rows),
     }
 }
 

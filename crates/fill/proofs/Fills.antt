@@ -33,14 +33,11 @@ use Rattle.state.specs.declared.Slip.{Slip}
 use Rattle.state.specs.declared.State.{State}
 use Rattle.state.specs.State.{pick, closeIf, settled, adding, step}
 use Rattle.state.specs.Fill.{slipNumbers, countNumbers, sumNumbers, rowNumbers, putIf, putSlip, Carried, filledSlips, filledRows, carryStep, stepOf, Within, Sane, Fit}
+use Rattle.state.proofs.Steps.{close-some}
 use Rattle.fill.specs.declared.Declared.{Declared}
 use Rattle.fill.proofs.Sane.{told-sane}
 
 -- ─── one row ───
-
-close-some : {A : Type 0} (k : ℕ) (a b : A) → (k ≡ 0 → ⊥) → b ≡ closeIf k a b
-close-some zero a b h = absurd (h refl)
-close-some (suc n) a b h = refl
 
 module _ (out : List ℕ) (a n : ℕ) (xs : List ℕ) where
   pub put-none : length out < a + n → out ≡ putIf out a n xs

@@ -141,7 +141,7 @@ pub fn put_row(state: State, rows: &mut [u64])
     }
     let tally = state.tally;
     let open = state.open;
-    let all = state::settle(tally, open);
+    let all = state::transaction::settle(tally, open);
     let batch = all.batch;
     let before = tally.closed.transactions.0;
     row_at(

@@ -1,10 +1,10 @@
 // What the check of a message comes to, as printed lines: `OK` with batches, transactions and cents, and a line `B` for each batch; or `NO` with number and place.
 ghost use mathlib.Core.Path.{_≡_};
 ghost use lib.ListN.{length};
+use answer::Checked;
 use libc::STDOUT_FILENO;
 use profile::Refusal;
 use profile::Totals;
-use state::Checked;
 
 pub fn print(text: &[u8]) {
     io::write_all(STDOUT_FILENO, text);

@@ -10,7 +10,6 @@ use native.Mathlib.Omega.{arith}
 use mathlib.Core.Bool.{Bool, true, false}
 use mathlib.Core.Path.{_≡_, refl, ap, sym, subst, _∙_}
 use borrow.Author.Tests.{eqb-true}
-use lib.Dec.{eqb}
 use Rattle.profile.specs.Limits.{mostBytes, mostCents, mostBatches, mostTransactions}
 use Rattle.profile.specs.Totals.{closed, totals}
 use Rattle.profile.specs.declared.ControlSum.{ControlSum}
@@ -20,7 +19,6 @@ use Rattle.profile.specs.declared.Totals.{Totals}
 use Rattle.tree.specs.Parts as part
 use Rattle.message.specs.declared.Told.{Told}
 use Rattle.message.specs.Message.{is, worth}
-use Rattle.state.specs.declared.Over.the-variants.{At as OverAt}
 use Rattle.state.specs.declared.Limited.{Limited}
 use Rattle.state.specs.declared.Open.{Open}
 use Rattle.state.specs.declared.Open.the-variants.{Nothing, Cents as OpenCents}
@@ -28,6 +26,7 @@ use Rattle.state.specs.declared.State.{State}
 use Rattle.state.specs.State.{pick, limitStep, declaring, adding, settled, amounting, closeIf, emptied, fresh, tallied, began, added, saying, step}
 use Rattle.state.specs.Fill.{Within, Sane}
 use Rattle.state.proofs.Fold.{by-bool}
+use Rattle.state.proofs.Steps.{limit-count}
 
 pub within-fresh : Within 0 fresh
 within-fresh = record {
@@ -71,9 +70,9 @@ added-fits st m e w = rw e (w .batches, w .transactions)
 
 -- a count that is one more at an element of the part n
 limit-small : (n lim p q : ℕ) (l : Limited) (t : Told) → l .count ≤ p → p < q → limitStep n lim l t .count ≤ q
-limit-small n lim p q l t h i = go (is n t)
+limit-small n lim p q l t h i = subst (λ (k : ℕ). k ≤ q) (sym (limit-count n lim l t)) (go (is n t))
   where
-    go : (z : Bool) → (pick z (record { count = suc (l .count); over = pick (eqb (l .count) lim) (OverAt (t .place)) (l .over) }) l) .count ≤ q
+    go : (z : Bool) → pick z (suc (l .count)) (l .count) ≤ q
     go true = omega arith
     go false = omega arith
 

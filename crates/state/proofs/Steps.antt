@@ -2,8 +2,10 @@
 --   pick-yes, pick-no          the event plays the part that is asked for, or another
 --   count-yes, sum-yes         a declaration that is told
 --   limit-other, limit-over, limit-more              none more; one more, the one too many or not
+--   limit-count                                      how many were counted against a limit
 --   amount-some, open-yes, open-no, settle-none, settle-some            the open transaction, none or one
 --   fault-count, fault-sum, fault-none, after-none   the fault of a batch, and the first fault
+--   close-some                                       a batch is open
 --   faulted-none, faulted-some, tallied-none, tallied-some   no batch is open, or one
 --   said-all                                         what an event says, field by field
 --   step-batch, step-transaction, step-other         the step, by the part of the event
@@ -24,6 +26,7 @@ use Rattle.profile.specs.Totals.{countDiffers, sumDiffers, freshBatch, withTran
 use Rattle.tree.specs.Parts as part
 use Rattle.message.specs.declared.Told.{Told}
 use Rattle.message.specs.Message.{is, worth}
+use Rattle.state.specs.declared.Over.{Over}
 use Rattle.state.specs.declared.Over.the-variants.{At as OverAt}
 use Rattle.state.specs.declared.Limited.{Limited}
 use Rattle.state.specs.declared.FirstBad.{FirstBad}
@@ -63,6 +66,13 @@ module _ (n lim : ℕ) (l : Limited) (t : Told) where
   pub limit-more : t .part ≡ n → (l .count ≡ lim → ⊥) → record { count = l .count + 1; over = l .over } ≡ limitStep n lim l t
   limit-more e f = rw (eq-eqb (t .part) n e, ne-eqb (l .count) lim f, add-one) refl
 
+  pub limit-count : limitStep n lim l t .count ≡ pick (is n t) (suc (l .count)) (l .count)
+  limit-count = go (is n t) _
+    where
+      go : (z : Bool) (o : Over) → (pick z (record { count = suc (l .count); over = o }) l) .count ≡ pick z (suc (l .count)) (l .count)
+      go true o = refl
+      go false o = refl
+
 -- ─── the open transaction ───
 
 pub amount-some : (o : Open) (t : Told) (c : ControlSum) (w : ℕ) → o ≡ OpenCents c → w ≡ worth t → OpenCents (record { 0 = w }) ≡ amounting o t
@@ -98,7 +108,7 @@ module _ (b : Batch) (p q : ℕ) where
 pub after-none : (f : BatchFault) (b : Batch) (p q : ℕ) (r : BatchFault) → f ≡ NoFault → r ≡ faultOf b p q → r ≡ faultAfter f b p q
 after-none f b p q r e g = rw e g
 
-close-some : {A : Type 0} (k : ℕ) (a b : A) → (k ≡ 0 → ⊥) → b ≡ closeIf k a b
+pub close-some : {A : Type 0} (k : ℕ) (a b : A) → (k ≡ 0 → ⊥) → b ≡ closeIf k a b
 close-some zero a b h = absurd (h refl)
 close-some (suc n) a b h = refl
 

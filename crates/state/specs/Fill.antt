@@ -1,5 +1,5 @@
 -- WHAT THE TABLES GET, as the code puts it: a transaction's slip when the next transaction or batch begins, or in the end; a batch's row when the next batch begins,
--- or in the end. Executable; that it is right is proofs/Rows.
+-- or in the end. Executable; that it is right is proofs/Rows and proofs/Slips.
 --   Carried                    the state, and the two lent tables
 --   filledSlips c, filledRows c   the tables with the open transaction's slip, and with the open batch's row
 --   stepOf s c e               what is carried behind the event e of the message s

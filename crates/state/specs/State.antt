@@ -1,13 +1,14 @@
--- THE RUNNING STATE of the check, as the code keeps it: what one event does to it, and what it answers in the end. Executable; that it is right is proofs/Right.
---   fresh          nothing was read                step st t      the state after the event t
---   tallied st     the tally with the open batch closed
---   answer r st    what is answered where st is the state after the last event
---   found, verdictSaid   what a stage and an answer of the code say
-use Prim.Native.Nat.{ℕ, zero, suc, _+_, _*_}
-use mathlib.Core.Bool.{Bool, true, false, not}
-use mathlib.Core.List.{List, [], _∷_}
-use mathlib.Core.Option.{Option, none, some}
-use lib.Dec.{eqb, leb}
+-- THE RUNNING STATE of the check, as the code keeps it: what one event does to it. Executable; that it is right is proofs/Book, proofs/Books and what the crate answer proves.
+--   pick z a b         a where the test z holds, else b
+--   badStep, limitStep, headerStep, declaring, openStep, slipStep   the parts of the state behind an event
+--   settled y o        the tally y with the open transaction o added
+--   faultAfter         the first fault of a batch, with one batch more
+--   fresh, step st t   nothing was read; the state behind the event t
+--   began, added, saying   the three things that an event does: it begins a batch, or a transaction, and its text says something
+--   tallied, faulted   the tally and the first fault with the open batch closed
+use Prim.Native.Nat.{ℕ, zero, suc, _+_}
+use mathlib.Core.Bool.{Bool, true, false}
+use lib.Dec.{eqb}
 use Rattle.profile.specs.Limits.{mostBatches, mostTransactions}
 use Rattle.profile.specs.Totals.{countDiffers, sumDiffers, freshBatch, freshTally, closed}
 use Rattle.profile.specs.declared.DeclaredCount.{DeclaredCount}
@@ -15,19 +16,14 @@ use Rattle.profile.specs.declared.DeclaredCount.the-variants.{Count, Absent as 
 use Rattle.profile.specs.declared.DeclaredSum.{DeclaredSum}
 use Rattle.profile.specs.declared.DeclaredSum.the-variants.{Cents, Absent as NoSum}
 use Rattle.profile.specs.declared.Batch.{Batch}
-use Rattle.profile.specs.declared.Totals.{Totals}
 use Rattle.profile.specs.declared.Tally.{Tally}
-use Rattle.profile.specs.declared.Refusal.{Refusal}
-use Rattle.profile.specs.declared.Refusal.the-variants.{TooManyBatches, TooManyTransactions, Text, BatchCount, BatchSum, MessageCount, MessageSum, SlipsTooShort, BatchesTooShort}
 use Rattle.text.specs.declared.Judged.{Judged}
 use Rattle.text.specs.declared.Judged.the-variants.{Good, Bad}
 use Rattle.tree.specs.Parts as part
 use Rattle.message.specs.declared.Told.{Told}
 use Rattle.message.specs.Message.{is, worth}
-use Rattle.message.specs.Verdict.{Room, Verdict, Verdict.accepted, Verdict.refused, verdict, at, first, unless}
 use Rattle.state.specs.declared.FirstBad.{FirstBad}
 use Rattle.state.specs.declared.FirstBad.the-variants.{None as NoBad, At as BadAt}
-use Rattle.state.specs.declared.Over.{Over}
 use Rattle.state.specs.declared.Over.the-variants.{No, At as OverAt}
 use Rattle.state.specs.declared.Limited.{Limited}
 use Rattle.state.specs.declared.Header.{Header}
@@ -38,10 +34,6 @@ use Rattle.state.specs.declared.Open.the-variants.{Nothing, Cents as Ope
 use Rattle.state.specs.declared.Span.{Span}
 use Rattle.state.specs.declared.Slip.{Slip}
 use Rattle.state.specs.declared.State.{State}
-use Rattle.state.specs.declared.Stage.{Stage}
-use Rattle.state.specs.declared.Stage.the-variants.{Passed, Refused as Stopped}
-use Rattle.state.specs.declared.Checked.{Checked}
-use Rattle.state.specs.declared.Checked.the-variants.{Accepted, Refused}
 
 -- the new one where a test holds, else the old one
 abbrev pub pick : {A : Type 0} → Bool → A → A → A
@@ -181,39 +173,30 @@ tallied st = closeIf (st .batches .count) (emptied (st .tally)) (closed (settled
 abbrev pub faulted : State → BatchFault
 faulted st = closeIf (st .batches .count) (st .fault) (faultAfter (st .fault) (settled (st .tally) (st .«open») .batch) (st .«count_at») (st .«sum_at»))
 
--- a batch begins: the open one is closed
-abbrev pub began : State → State
-began st = record {
+-- no transaction is open: the first fault, the tally, the places of the open batch's declarations and its terms are these
+abbrev pub renewed : State → BatchFault → Tally → ℕ → ℕ → ℕ → ℕ → State
+renewed st f y p q x z = record {
   bad = st .bad;
   batches = st .batches;
   transactions = st .transactions;
   header = st .header;
-  fault = faulted st;
-  tally = tallied st;
-  «count_at» = 0;
-  «sum_at» = 0;
-  scheme = 0;
-  sequence = 0;
+  fault = f;
+  tally = y;
+  «count_at» = p;
+  «sum_at» = q;
+  scheme = x;
+  sequence = z;
   «open» = Nothing;
   slip = freshSlip;
 }
 
+-- a batch begins: the open one is closed
+abbrev pub began : State → State
+began st = renewed st (faulted st) (tallied st) 0 0 0 0
+
 -- a transaction begins: the open one is added
 abbrev pub added : State → State
-added st = record {
-  bad = st .bad;
-  batches = st .batches;
-  transactions = st .transactions;
-  header = st .header;
-  fault = st .fault;
-  tally = settled (st .tally) (st .«open»);
-  «count_at» = st .«count_at»;
-  «sum_at» = st .«sum_at»;
-  scheme = st .scheme;
-  sequence = st .sequence;
-  «open» = Nothing;
-  slip = freshSlip;
-}
+added st = renewed st (st .fault) (settled (st .tally) (st .«open»)) (st .«count_at») (st .«sum_at») (st .scheme) (st .sequence)
 
 -- what the text of an event says
 abbrev pub saying : State → Told → State
@@ -234,50 +217,3 @@ saying st t = record {
 
 abbrev pub step : State → Told → State
 step st t = saying (pick (is part.batch t) (began st) (pick (is part.transaction t) (added st) st)) t
-
--- ─── 6. The answer ───
-
-abbrev pub badFound : FirstBad → Option Refusal
-badFound NoBad = none
-badFound (BadAt f p) = some (Text f p)
-
-abbrev pub overFound : Over → Option ℕ
-overFound No = none
-overFound (OverAt p) = some p
-
-abbrev pub faultFound : BatchFault → Option Refusal
-faultFound NoFault = none
-faultFound (WrongCount p) = some (BatchCount p)
-faultFound (WrongSum p) = some (BatchSum p)
-
--- what is found of the totals: the header's declarations, then the tables
-abbrev pub lastFound : Room → Header → Totals → List (Option Refusal)
-lastFound r h y =
-    let n = y .transactions .0 in
-    at MessageCount (pick (countDiffers (h .«declared_count») (y .transactions)) (some (h .«count_at»)) none)
-    ∷ at MessageSum (pick (sumDiffers (h .«declared_sum») (y .cents)) (some (h .«sum_at»)) none)
-    ∷ at SlipsTooShort (unless (leb (12 * n) (r .slips)) (12 * n))
-    ∷ at BatchesTooShort (unless (leb (8 * y .batches) (r .rows)) (8 * y .batches))
-    ∷ []
-
-abbrev pub answerFrom : Room → State → BatchFault → Totals → Verdict
-answerFrom r st f y =
-    verdict (first (
-    at TooManyBatches (overFound (st .batches .over))
-    ∷ at TooManyTransactions (overFound (st .transactions .over))
-    ∷ badFound (st .bad)
-    ∷ faultFound f
-    ∷ lastFound r (st .header) y))
-    y
-
-abbrev pub answer : Room → State → Verdict
-answer r st = answerFrom r st (faulted st) (tallied st .closed)
-
--- what the code says: a stage, and the whole answer
-abbrev pub found : Stage → Option Refusal
-found Passed = none
-found (Stopped x) = some x
-
-abbrev pub verdictSaid : Checked → Verdict
-verdictSaid (Accepted y) = accepted y
-verdictSaid (Refused x) = refused x

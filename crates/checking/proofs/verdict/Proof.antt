@@ -9,7 +9,7 @@ use Rattle.checking.proofs.verdict.Reads as reads
 use Rattle.checking.proofs.verdict.Lts as lts
 use Rattle.reader.proofs.read.Reads as read-reads
 use Rattle.state.proofs.State.fresh.Reads as fresh-reads
-use Rattle.state.proofs.answer.Reads as answer-reads
+use Rattle.answer.proofs.answer.Reads as answer-reads
 
 -- src/lib.rt:21:33
 fresh-requires : tie.Need-fresh-requires

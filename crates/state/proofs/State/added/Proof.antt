@@ -6,11 +6,11 @@ use Rattle.state.proofs.State.added.Tie as tie
 settle-requires : tie.Need-settle-requires
 settle-requires c κs = search needs
 
-fresh-requires : tie.Need-fresh-requires
-fresh-requires c κs = search needs
+renewed-requires : tie.Need-renewed-requires
+renewed-requires c κs = search needs
 
 returns : tie.Need-returns
 returns c = cc
 
 pub added-spec : {M : Type 1} → statement M
-added-spec = tie.close (tie.spec settle-requires fresh-requires returns)
+added-spec = tie.close (tie.spec settle-requires renewed-requires returns)

@@ -9,11 +9,11 @@ faulted-requires c κs = search needs
 tallied-requires : tie.Need-tallied-requires
 tallied-requires c κs = search needs
 
-fresh-requires : tie.Need-fresh-requires
-fresh-requires c κs = search needs
+renewed-requires : tie.Need-renewed-requires
+renewed-requires c κs = search needs
 
 returns : tie.Need-returns
 returns c = cc
 
 pub began-spec : {M : Type 1} → statement M
-began-spec = tie.close (tie.spec faulted-requires tallied-requires fresh-requires returns)
+began-spec = tie.close (tie.spec faulted-requires tallied-requires renewed-requires returns)

@@ -1,0 +1,19 @@
+-- `answer::batches_stage` meets its contract, case by case.
+use borrow.Author.Needs.{needs}
+use Rattle.answer.proofs.batches_stage.Statement.{statement}
+use Rattle.answer.proofs.batches_stage.Tie as tie
+
+enum-told : tie.Need-enum-told
+enum-told c = search needs
+
+enum-known-over : tie.Need-enum-known-over
+enum-known-over c = search needs
+
+returns : tie.Need-returns
+returns c = search needs
+
+returns-2 : tie.Need-returns-2
+returns-2 c = cc
+
+pub batches-stage-spec : {M : Type 1} → statement M
+batches-stage-spec = tie.close (tie.spec enum-told enum-known-over returns returns-2)

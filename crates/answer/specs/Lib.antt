@@ -1,0 +1,2 @@
+-- Answer   what the state answers behind the last event
+pub mod Answer

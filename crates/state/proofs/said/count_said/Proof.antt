@@ -1,0 +1,18 @@
+-- `state::said::count_said` meets its contract: the event plays the part, or another.
+use Rattle.state.proofs.Steps.{count-yes, pick-no}
+use mathlib.Core.Path.{refl}
+use borrow.Author.Needs.{needs}
+use Rattle.state.proofs.said.count_said.Statement.{statement}
+use Rattle.state.proofs.said.count_said.Tie as tie
+
+worth-requires : tie.Need-worth-requires
+worth-requires c κs = search needs
+
+returns : tie.Need-returns
+returns c = count-yes (c .before .before .before .args .part) (c .before .before .before .args .t) (c .before .before .before .args .old) _ (c .before .if1 .taken) (c .worth .ensures)
+
+returns-2 : tie.Need-returns-2
+returns-2 c = pick-no (c .before .before .args .part) (c .before .before .args .t) _ (c .before .before .args .old) _ (c .if1 .left) refl
+
+pub count-said-spec : {M : Type 1} → statement M
+count-said-spec = tie.close (tie.spec worth-requires returns returns-2)
