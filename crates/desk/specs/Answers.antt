@@ -6,8 +6,8 @@ use mathlib.Core.List.{List}
 use mathlib.Core.Path.{_≡_}
 use Rattle.laws.specs.Bytes.{Bytes}
 use Rattle.profile.specs.Refusals.{numberOf, placeOf}
-use Rattle.state.specs.declared.Checked.{Checked}
-use Rattle.state.specs.declared.Checked.the-variants.{Accepted, Refused}
+use Rattle.answer.specs.declared.Checked.{Checked}
+use Rattle.answer.specs.declared.Checked.the-variants.{Accepted, Refused}
 use Rattle.checking.specs.Check.{Checks}
 use Rattle.desk.specs.declared.DeskChecked.{DeskChecked}
 

@@ -1,7 +1,7 @@
 // The desk for programs in other languages: the check with C's calling convention. include/desk.h states it for them.
 ghost use Rattle.desk.specs.Answers.{checkedNumbers, DeskChecks};
 ghost use mathlib.Core.Path.{_≡_};
-use state::Checked;
+use answer::Checked;
 
 // What the check answers: number 0 and the totals of an accepted message, or the number and place of a refusal.
 #[repr(C)]
