@@ -1,6 +1,7 @@
 -- THE ANSWER: what each stage's arm finds, and the stages in a row, in plain variables.
 --   differs-yes, differs-no   a declaration of the header, by the test that was made
 --   room-yes, room-no         a table with room, and one that is too short
+--   ends                      nothing behind a stage
 --   four                      four stages in a row
 --   answered                  the whole answer
 use Prim.Native.Nat.{ℕ, _≤_, _<_}
@@ -34,7 +35,7 @@ module _ (f : ℕ → Refusal) where
   pub room-no : (a room : ℕ) → room < a → some (f a) ≡ at f (unless (leb a room) a)
   room-no a room h = rw (lt-leb a room h) refl
 
-ends : (a : Option Refusal) → orElse a none ≡ a
+pub ends : (a : Option Refusal) → orElse a none ≡ a
 ends none = refl
 ends (some a) = refl
 

@@ -46,6 +46,7 @@ use Rattle.answer.specs.Answer.{badFound, overFound, faultFound, answer}
 use Rattle.state.proofs.Fold.{by-bool, fold, project, keeps, turn, run, sections}
 use Rattle.state.proofs.Book.{countOf, sumOf, startOf, freshBook, settledBook, bookStep, Says, opened}
 use Rattle.state.proofs.Books.{Books, booksStep, shutTotals, shutFault, nextBooks, books-fold, booksOf, shut-closed, books-step, alone}
+use Rattle.answer.proofs.Answers.{ends}
 
 -- ─── 1. The first bad text ───
 
@@ -139,11 +140,7 @@ abbrev runBooks : Books → List (List Told) → Books
 runBooks a ps = run part.batch booksStep nextBooks a ps
 
 run-books : (a : Books) (ps : List (List Told)) → Added (shutTotals a) (shutFault a) (map batchOf ps) (shutTotals (runBooks a ps)) (shutFault (runBooks a ps))
-run-books a [] = record { batches = sym (add-zero _); transactions = sym (add-zero _); cents = sym (add-zero _); fault = sym (none-right _) }
-  where
-    none-right : (o : Option Refusal) → orElse o none ≡ o
-    none-right none = refl
-    none-right (some f) = refl
+run-books a [] = record { batches = sym (add-zero _); transactions = sym (add-zero _); cents = sym (add-zero _); fault = sym (ends _) }
 run-books a (p ∷ ps) =
     let c : Books = record { begun = suc (a .begun); totals = shutTotals a; fault = shutFault a; book = fold bookStep freshBook p } in
     added-close (shutTotals a) (shutFault a) (settledBook (c .book) .batch) (c .book .countAt) (c .book .sumAt) (batchOf p) (map batchOf ps) _ _ (opened p)

@@ -8,14 +8,14 @@ use native.Mathlib.Omega.{arith}
 use mathlib.Core.Bool.{Bool, true, false}
 use mathlib.Core.List.{List, [], _∷_, map}
 use mathlib.Core.Option.{Option, none, some}
-use mathlib.Core.Path.{_≡_, refl, ap, sym, subst, _∙_}
-use borrow.Author.Tests.{eq-eqb, eqb-true, le-leb, leb-true}
-use lib.Dec.{T, eqb, leb}
+use mathlib.Core.Path.{_≡_, refl, ap, sym}
+use borrow.Author.Tests.{eq-eqb, eqb-true, leb-true}
+use lib.Dec.{T, eqb}
 use lib.ListN.{length}
 use Rattle.laws.specs.Lists.{total, All}
 use Rattle.profile.specs.Limits.{mostBatches, mostTransactions}
 use Rattle.profile.specs.declared.Refusal.{Refusal}
-use Rattle.profile.specs.declared.Refusal.the-variants.{TooManyBatches, TooManyTransactions, Text, BatchCount, BatchSum, MessageCount, MessageSum, SlipsTooShort, BatchesTooShort}
+use Rattle.profile.specs.declared.Refusal.the-variants.{TooManyBatches, TooManyTransactions, BatchCount, BatchSum, MessageCount, MessageSum, SlipsTooShort, BatchesTooShort}
 use Rattle.profile.specs.declared.Totals.{Totals}
 use Rattle.text.specs.declared.Judged.{Judged}
 use Rattle.text.specs.declared.Judged.the-variants.{Good, Bad}
@@ -23,7 +23,8 @@ use Rattle.text.specs.Rules.{good}
 use Rattle.tree.specs.Parts as part
 use Rattle.message.specs.declared.Told.{Told}
 use Rattle.message.specs.Message.{Batch, all, the, batchesOf, worth, count, sum}
-use Rattle.message.specs.Verdict.{Room, Verdict, accepted, refused, verdict, at, first, orElse, unless, placeAfter, broken, firstBroken, differs, batchFault, stages, totalsOf, verdictOf}
+use Rattle.message.specs.Verdict.{Room, accepted, verdict, at, first, orElse, unless, placeAfter, broken, firstBroken, differs, batchFault, stages, totalsOf, verdictOf}
+use Rattle.answer.proofs.Answers.{room-yes}
 use Rattle.checking.specs.Demand2.{Agrees, AllAgree, InProfile, Enough}
 
 -- ─── none found ───
@@ -135,7 +136,7 @@ accepts r ts e p a =
               at-is-none MessageCount _ (agreed (the part.messageCount ts) _ (a .messageCount)),
               (
                 at-is-none MessageSum _ (agreed (the part.messageSum ts) _ (a .messageSum)),
-                (rw (le-leb _ _ (e .slips)) refl, (rw (le-leb _ _ (e .rows)) refl, tt)),
+                (sym (room-yes SlipsTooShort _ (r .slips) (e .slips)), (sym (room-yes BatchesTooShort _ (r .rows) (e .rows)), tt)),
               ),
             ),
           ),

@@ -5,15 +5,14 @@
 use Prim.Native.Nat.{ℕ}
 use native.Mathlib.Omega.{arith}
 use mathlib.Core.List.{List}
-use mathlib.Core.Path.{_≡_, refl, ap, sym, subst, _∙_}
+use mathlib.Core.Path.{_≡_, ap, sym, _∙_}
 use mathlib.Core.Logic.{_⊎_, inl, inr}
 use Rattle.laws.specs.Bytes.{Bytes}
 use Rattle.profile.specs.declared.Totals.{Totals}
-use Rattle.tree.specs.Form.{Message, message}
-use Rattle.tree.specs.Pain008.{Document, declaration}
-use Rattle.message.specs.declared.Told.{Told}
+use Rattle.tree.specs.Form.{Message}
+use Rattle.tree.specs.Pain008.{Document}
 use Rattle.message.specs.Message.{batchesOf}
-use Rattle.message.specs.Verdict.{Verdict, accepted, totalsOf, verdictOf}
+use Rattle.message.specs.Verdict.{accepted, totalsOf, verdictOf}
 use Rattle.answer.specs.declared.Checked.{Checked}
 use Rattle.answer.specs.declared.Checked.the-variants.{Accepted, Refused}
 use Rattle.answer.specs.Answer.{verdictSaid}

@@ -1,11 +1,10 @@
 -- ANY TWO OUTCOMES THAT THE PROMISE OF THE CHECK ALLOWS COINCIDE.
 --   one-outcome
-use Prim.Native.Nat.{ℕ, _<_, _≤_}
+use Prim.Native.Nat.{ℕ}
 use native.Mathlib.Omega.{arith}
 use mathlib.Core.List.{List}
-use mathlib.Core.Path.{_≡_, refl, ap, sym, subst, _∙_}
+use mathlib.Core.Path.{_≡_, ap, sym, _∙_}
 use mathlib.Core.Logic.{_⊎_, inl, inr}
-use lib.ListN.{length}
 use Rattle.laws.specs.Bytes.{Bytes}
 use Rattle.profile.specs.declared.Refusal.the-variants.{NotOfTheForm}
 use Rattle.tree.specs.declared.Event.{Event}
@@ -14,7 +13,7 @@ use Rattle.tree.specs.Pain008.{Document, declaration}
 use Rattle.tree.proofs.Pain008.{unambiguous, place-one}
 use Rattle.message.specs.declared.Told.{Told}
 use Rattle.message.specs.Message.{tell}
-use Rattle.message.specs.Verdict.{Verdict, verdictOf, slipsOf, rowsOf}
+use Rattle.message.specs.Verdict.{verdictOf, slipsOf, rowsOf}
 use Rattle.answer.specs.declared.Checked.{Checked}
 use Rattle.answer.specs.declared.Checked.the-variants.{Accepted, Refused}
 use Rattle.answer.specs.Answer.{verdictSaid}

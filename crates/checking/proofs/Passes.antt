@@ -6,11 +6,11 @@
 --   filled            the second pass
 --   nothing-before    the tables of the first pass
 --   check-refused, check-accepted   both together
-use Prim.Native.Nat.{ℕ, _<_, _≤_}
+use Prim.Native.Nat.{ℕ, _≤_}
 use native.Mathlib.Omega.{arith}
 use mathlib.Core.List.{List, [], _∷_, _++_}
 use mathlib.Core.Path.{_≡_, refl, ap, sym, subst, _∙_}
-use mathlib.Core.Logic.{_⊎_, inl, inr}
+use mathlib.Core.Logic.{inl, inr}
 use lib.ListN.{length}
 use Rattle.laws.specs.Bytes.{Bytes}
 use Rattle.profile.specs.Limits.{mostBytes}
@@ -18,11 +18,11 @@ use Rattle.profile.specs.declared.Refusal.{Refusal}
 use Rattle.profile.specs.declared.Refusal.the-variants.{TooLong, NotOfTheForm}
 use Rattle.profile.specs.declared.Totals.{Totals}
 use Rattle.tree.specs.declared.Event.{Event}
-use Rattle.tree.specs.Form.{Message, message, messageEvents, OfForm, IsPlace}
+use Rattle.tree.specs.Form.{Message, message, messageEvents}
 use Rattle.tree.specs.Pain008.{Document, declaration}
 use Rattle.message.specs.declared.Told.{Told}
 use Rattle.message.specs.Message.{tell, told}
-use Rattle.message.specs.Verdict.{Room, verdictOf, slipsOf, rowsOf}
+use Rattle.message.specs.Verdict.{Room}
 use Rattle.answer.specs.declared.Checked.{Checked}
 use Rattle.answer.specs.declared.Checked.the-variants.{Accepted, Refused}
 use Rattle.state.specs.declared.State.{State}
@@ -39,7 +39,6 @@ use Rattle.reader.specs.declared.Outcome.the-variants.{TooLong as LongOne, Stuc
 use Rattle.reader.specs.Walk as walk
 use Rattle.reader.specs.Read.{ReadRight, Bounded}
 use Rattle.checking.specs.Check.{saidBy, roomOf, Checks}
-use Rattle.checking.specs.Demand2.{Enough}
 use Rattle.checking.specs.Inner.{Verdicts, Fills}
 use Rattle.checking.proofs.Accepts.{accepted-only}
 use Rattle.checking.proofs.Outcome.{same-said}

@@ -4,7 +4,7 @@
 --   InProfile ts    what the message says meets no refusal of 3, 4 and 5
 --   Enough r ts     the tables are long enough
 --   Belongs s m     the message s, read as m, belongs to the profile: it meets no refusal that stands before 6
-use Prim.Native.Nat.{ℕ, _+_, _*_, _≤_}
+use Prim.Native.Nat.{ℕ, _*_, _≤_}
 use mathlib.Core.List.{List}
 use mathlib.Core.Option.{Option, none, some}
 use mathlib.Core.Path.{_≡_}
@@ -18,7 +18,7 @@ use Rattle.tree.specs.Form.{Message, message}
 use Rattle.tree.specs.Pain008.{Document, declaration}
 use Rattle.tree.specs.Parts as part
 use Rattle.message.specs.declared.Told.{Told}
-use Rattle.message.specs.Message.{Batch, all, the, batchesOf, worth, count, sum}
+use Rattle.message.specs.Message.{all, the, batchesOf, worth, count, sum}
 use Rattle.message.specs.Verdict.{Room}
 use Rattle.checking.specs.Check.{saidBy}
 

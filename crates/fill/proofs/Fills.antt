@@ -6,7 +6,7 @@
 --   slip-small                    the place of a slip is small
 --   told-fits, told-within        what the step asks of an event, and what it keeps
 --   event-batch, event-transaction, event-other   the step, by the part of the event
-use Prim.Native.Nat.{ℕ, zero, suc, _+_, _*_, _-_, _≤_, _<_}
+use Prim.Native.Nat.{ℕ, _+_, _*_, _-_, _≤_, _<_}
 use native.Mathlib.Omega.{arith}
 use mathlib.Core.Bool.{Bool, true, false}
 use mathlib.Core.List.{List, [], _∷_, _++_}
@@ -31,7 +31,7 @@ use Rattle.state.specs.declared.Open.{Open}
 use Rattle.state.specs.declared.Open.the-variants.{Nothing, Cents as OpenCents}
 use Rattle.state.specs.declared.Slip.{Slip}
 use Rattle.state.specs.declared.State.{State}
-use Rattle.state.specs.State.{pick, closeIf, settled, adding, step}
+use Rattle.state.specs.State.{pick, settled, adding, step}
 use Rattle.state.specs.Fill.{slipNumbers, countNumbers, sumNumbers, rowNumbers, putIf, putSlip, Carried, filledSlips, filledRows, carryStep, stepOf, Within, Sane, Fit}
 use Rattle.state.proofs.Steps.{close-some}
 use Rattle.fill.specs.declared.Declared.{Declared}

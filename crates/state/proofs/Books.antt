@@ -15,7 +15,7 @@ use Rattle.profile.specs.declared.Totals.{Totals}
 use Rattle.profile.specs.declared.Tally.{Tally}
 use Rattle.tree.specs.Parts as part
 use Rattle.message.specs.declared.Told.{Told}
-use Rattle.message.specs.Message.{is, count}
+use Rattle.message.specs.Message.{is}
 use Rattle.state.specs.declared.BatchFault.{BatchFault}
 use Rattle.state.specs.declared.Open.the-variants.{Nothing}
 use Rattle.state.specs.declared.State.{State}

@@ -29,26 +29,10 @@ use Rattle.state.proofs.Fold.{by-bool}
 use Rattle.state.proofs.Steps.{limit-count}
 
 pub within-fresh : Within 0 fresh
-within-fresh = record {
-  batches = omega arith;
-  transactions = omega arith;
-  closed = omega arith;
-  counted = omega arith;
-  summed = omega arith;
-  scheme = omega arith;
-  sequence = omega arith;
-}
+within-fresh = record { batches = omega arith; transactions = omega arith; closed = omega arith; counted = omega arith; summed = omega arith; scheme = omega arith; sequence = omega arith }
 
 pub within-more : {p q : ℕ} {st : State} → Within p st → p ≤ q → Within q st
-within-more w h = record {
-  batches = omega arith;
-  transactions = omega arith;
-  closed = omega arith;
-  counted = omega arith;
-  summed = omega arith;
-  scheme = omega arith;
-  sequence = omega arith;
-}
+within-more w h = record { batches = omega arith; transactions = omega arith; closed = omega arith; counted = omega arith; summed = omega arith; scheme = omega arith; sequence = omega arith }
 
 -- ─── what is asked ───
 

@@ -2,13 +2,13 @@
 --   fold, project     a part of the state that goes by itself
 --   keeps             a state that keeps the last element of a part
 --   turn, run, sections   a state that is closed and opened again at each element of a part n, folded over all events, runs over the parts that begin with n
-use Prim.Native.Nat.{ℕ, zero, suc, _+_}
+use Prim.Native.Nat.{ℕ}
 use mathlib.Core.Bool.{Bool, true, false}
-use mathlib.Core.List.{List, [], _∷_, _++_}
-use mathlib.Core.Option.{Option, none, some}
+use mathlib.Core.List.{List, [], _∷_}
+use mathlib.Core.Option.{Option, some}
 use mathlib.Core.Path.{_≡_, refl, ap, sym, _∙_}
 use Rattle.message.specs.declared.Told.{Told}
-use Rattle.message.specs.Message.{is, before, parts, all, lastOr, the}
+use Rattle.message.specs.Message.{is, before, parts, all, lastOr}
 use Rattle.state.specs.State.{pick}
 
 -- two cases

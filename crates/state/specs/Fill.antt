@@ -5,8 +5,7 @@
 --   stepOf s c e               what is carried behind the event e of the message s
 --   Within p st                what keeps the numbers small at the place p
 --   Sane t, Fit e              what keeps an amount, a scheme and a sequence small
-use Prim.Native.Nat.{ℕ, zero, suc, _+_, _*_, _≤_}
-use mathlib.Core.Bool.{Bool, true, false}
+use Prim.Native.Nat.{ℕ, _+_, _*_, _≤_}
 use mathlib.Core.List.{List, [], _∷_, _++_}
 use mathlib.Core.Path.{_≡_}
 use lib.Dec.{leb}
