@@ -1,3 +1,4 @@
--- Held   the tables hold the profile tree
+-- Held   the tables hold the profile tree      Fits   an element's kind by its part      Arms   the arms of a match on a number
 pub mod Held
 pub mod Fits
+pub mod Arms

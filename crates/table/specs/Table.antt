@@ -1,4 +1,4 @@
--- THE TABLES OF A DESCRIPTION, worked out from it: what the constants of src/lib.rt must be. That they hold the description is the test `holdsElem`.
+-- THE TABLES OF A DESCRIPTION, worked out from it: what the tables of src/lib.rt must be. That they hold the description is the test `holdsElem`.
 --   elementCount, rowsEnd, tagBytes   the sizes of the tables
 --   flat e                 the element and all below it, in the order of their opening tags
 --   tags, elements, rows   the tables of the profile tree

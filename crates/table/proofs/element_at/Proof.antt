@@ -1,15 +1,12 @@
--- `table::element_at` meets its contract: the constant table is the one worked out from the tree.
-use Rattle.table.specs.Table.{elements, elementAt, end}
+-- `table::element_at` meets its contract: its fields are the numbers of the element, the second of which is its kind's.
+use Rattle.table.specs.Table.{elementAt}
 use Rattle.table.proofs.Held.{kind-small}
 use borrow.Author.Needs.{needs}
 use Rattle.table.proofs.element_at.Statement.{statement}
 use Rattle.table.proofs.element_at.Tie as tie
 
-mul-x : tie.Need-mul-x
-mul-x c = search needs
-
-array-copy-out-x : tie.Need-array-copy-out-x
-array-copy-out-x c = search needs
+element-numbers-requires : tie.Need-element-numbers-requires
+element-numbers-requires c κs = search needs
 
 array-read-part : tie.Need-array-read-part
 array-read-part c = search needs
@@ -18,8 +15,7 @@ array-read-number : tie.Need-array-read-number
 array-read-number c = search needs
 
 kind-of-requires : tie.Need-kind-of-requires
-unfolding elements end
-kind-of-requires c κs = kind-small (c .before .args .e) (search needs)
+kind-of-requires c κs = rw (c .element-numbers .ensures) (kind-small (c .before .args .e) (search needs))
 
 array-read-first : tie.Need-array-read-first
 array-read-first c = search needs
@@ -34,15 +30,14 @@ array-read-end : tie.Need-array-read-end
 array-read-end c = search needs
 
 returns : tie.Need-returns
-unfolding elements elementAt end
-returns c = rw (c .kind-of .ensures)
+unfolding elementAt
+returns c = rw (c .kind-of .ensures, c .before .element-numbers .ensures)
 
 pub element-at-spec : {M : Type 1} → statement M
 element-at-spec =
     tie.close
     (tie.spec
-    mul-x
-    array-copy-out-x
+    element-numbers-requires
     array-read-part
     array-read-number
     kind-of-requires

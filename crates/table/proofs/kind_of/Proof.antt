@@ -1,18 +1,30 @@
--- `table::kind_of` meets its contract: the constant table is that of the kinds.
-use borrow.Author.Needs.{needs}
+-- `table::kind_of` meets its contract: each arm has the kind with its number.
 use Rattle.table.specs.Table.{kindOf}
+use Rattle.table.proofs.Arms.{arm, last-key}
 use Rattle.table.proofs.kind_of.Statement.{statement}
 use Rattle.table.proofs.kind_of.Tie as tie
 
-mul-result : tie.Need-mul-result
-mul-result c = search needs
-
-array-copy-out-result : tie.Need-array-copy-out-result
-array-copy-out-result c = search needs
-
-returns : tie.Need-returns
-unfolding kindOf
-returns c = search needs
-
 pub kind-of-spec : {M : Type 1} → statement M
-kind-of-spec = tie.close (tie.spec mul-result array-copy-out-result returns)
+unfolding kindOf
+kind-of-spec =
+    tie.close
+    (tie.spec
+    (λ c. arm kindOf (c .match .keys1))
+    (λ c. arm kindOf (c .match .keys2))
+    (λ c. arm kindOf (c .match .keys3))
+    (λ c. arm kindOf (c .match .keys4))
+    (λ c. arm kindOf (c .match .keys5))
+    (λ c. arm kindOf (c .match .keys6))
+    (λ c. arm kindOf (c .match .keys7))
+    (λ c. arm kindOf (c .match .keys8))
+    (λ c. arm kindOf (c .match .keys9))
+    (λ c. arm kindOf (c .match .keys10))
+    (λ c. arm kindOf (c .match .keys11))
+    (λ c. arm kindOf (c .match .keys12))
+    (λ c. arm kindOf (c .match .keys13))
+    (λ c. arm kindOf (c .match .keys14))
+    (λ c. arm kindOf (c .match .keys15))
+    (λ c. arm kindOf (c .match .keys16))
+    (λ c. arm kindOf (c .match .keys17))
+    (λ c. arm kindOf (c .match .keys18))
+    (λ c. arm kindOf (last-key 18 (c .before .args .n) (c .before .pre) (c .match .rest))))
