@@ -1,0 +1,1 @@
+// What a day list says: its creditor and its collections.
