@@ -1,0 +1,89 @@
+-- THE BYTES OF THE MESSAGE, PIECE BY PIECE, as the code writes them. Not to be believed: the message is that of Written, and `pieces-written` says that these are its bytes.
+--   bankBytes, remittanceBytes, transactionBytes   of a transaction
+--   headBytes cr n xs, batchBytes cr n xs          of batch n with the collections xs: before its first transaction; the whole
+--   openingBytes cr n sum                          before the first batch, for n collections of `sum` cents
+--   messageBytes cr bs                             the whole
+use Prim.Native.Nat.{ℕ, suc}
+use Prim.Native.String.{String}
+use mathlib.Core.List.{List, [], _∷_, _++_}
+use lib.ListN.{length}
+use Rattle.laws.specs.Bytes.{Bytes, ascii}
+use Rattle.laws.specs.Lists.{total, concat, gather}
+use Rattle.put.specs.Numerals.{decimal, euros, batchId}
+use Rattle.tree.specs.Pain008.{declaration}
+use Rattle.listed.specs.Listed.{Terms, Collection, Creditor}
+use Rattle.written.specs.Written.{schemeWord, sequenceWord, termsOf}
+
+abbrev pub bankBytes : Bytes → Bytes
+bankBytes [] = ascii "<FinInstnId><Othr><Id>NOTPROVIDED</Id></Othr></FinInstnId>"
+bankBytes (c ∷ s) = ascii "<FinInstnId><BICFI>" ++ ((c ∷ s) ++ ascii "</BICFI></FinInstnId>")
+
+abbrev pub remittanceBytes : Bytes → Bytes
+remittanceBytes [] = []
+remittanceBytes (c ∷ s) = ascii "<RmtInf><Ustrd>" ++ ((c ∷ s) ++ ascii "</Ustrd></RmtInf>")
+
+-- up to the debtor's bank, and from there on
+abbrev pub paymentBytes : Collection → Bytes
+paymentBytes x =
+    ascii "<DrctDbtTxInf><PmtId><EndToEndId>" ++ (x .endToEnd
+    ++ (ascii "</EndToEndId></PmtId><InstdAmt Ccy=\"EUR\">" ++ (euros (x .cents)
+    ++ (ascii "</InstdAmt><DrctDbtTx><MndtRltdInf><MndtId>" ++ (x .mandate
+    ++ (ascii "</MndtId><DtOfSgntr>" ++ (x .signatureDate
+    ++ ascii "</DtOfSgntr></MndtRltdInf></DrctDbtTx><DbtrAgt>")))))))
+
+abbrev pub debtorBytes : Collection → Bytes
+debtorBytes x =
+    bankBytes (x .bank)
+    ++ (ascii "</DbtrAgt><Dbtr><Nm>" ++ (x .debtorName
+    ++ (ascii "</Nm></Dbtr><DbtrAcct><Id><IBAN>" ++ (x .debtorAccount
+    ++ (ascii "</IBAN></Id></DbtrAcct>" ++ (remittanceBytes (x .remittance)
+    ++ ascii "</DrctDbtTxInf>"))))))
+
+unfoldable pub transactionBytes : Collection → Bytes
+transactionBytes x = paymentBytes x ++ debtorBytes x
+
+-- a batch up to its terms, its terms, its creditor
+abbrev pub totalsBytes : ℕ → List Collection → Bytes
+totalsBytes n xs =
+    ascii "<PmtInf><PmtInfId>" ++ (batchId n
+    ++ (ascii "</PmtInfId><PmtMtd>DD</PmtMtd><BtchBookg>true</BtchBookg><NbOfTxs>" ++ (decimal (length xs)
+    ++ (ascii "</NbOfTxs><CtrlSum>" ++ (euros (total (λ x. x .cents) xs)
+    ++ ascii "</CtrlSum><PmtTpInf><SvcLvl><Cd>SEPA</Cd></SvcLvl><LclInstrm><Cd>")))))
+
+abbrev pub termsBytes : Terms → Bytes
+termsBytes k =
+    schemeWord (k .scheme) ++ (ascii "</Cd></LclInstrm><SeqTp>" ++ (sequenceWord (k .sequence)
+    ++ (ascii "</SeqTp></PmtTpInf><ReqdColltnDt>" ++ (k .date
+    ++ ascii "</ReqdColltnDt><Cdtr><Nm>"))))
+
+abbrev pub creditorBytes : Creditor → Bytes
+creditorBytes cr =
+    cr .name ++ (ascii "</Nm></Cdtr><CdtrAcct><Id><IBAN>" ++ (cr .account
+    ++ (ascii "</IBAN></Id></CdtrAcct><CdtrAgt>" ++ (bankBytes (cr .bank)
+    ++ (ascii "</CdtrAgt><ChrgBr>SLEV</ChrgBr><CdtrSchmeId><Id><PrvtId><Othr><Id>" ++ (cr .identifier
+    ++ ascii "</Id><SchmeNm><Prtry>SEPA</Prtry></SchmeNm></Othr></PrvtId></Id></CdtrSchmeId>"))))))
+
+unfoldable pub headBytes : Creditor → ℕ → List Collection → Bytes
+headBytes cr n xs = totalsBytes n xs ++ (termsBytes (termsOf xs) ++ creditorBytes cr)
+
+unfoldable pub batchBytes : Creditor → ℕ → List Collection → Bytes
+batchBytes cr n xs = headBytes cr n xs ++ (gather transactionBytes xs ++ ascii "</PmtInf>")
+
+-- batches numbered from n on
+abbrev pub batchesBytes : Creditor → ℕ → List (List Collection) → Bytes
+batchesBytes cr n [] = []
+batchesBytes cr n (b ∷ bs) = batchBytes cr n b ++ batchesBytes cr (suc n) bs
+
+unfoldable pub openingBytes : Creditor → ℕ → ℕ → Bytes
+openingBytes cr n sum =
+    declaration ++ (ascii "<Document xmlns=\"urn:iso:std:iso:20022:tech:xsd:pain.008.001.08\"><CstmrDrctDbtInitn><GrpHdr><MsgId>" ++ (cr .messageId
+    ++ (ascii "</MsgId><CreDtTm>" ++ (cr .creationTime
+    ++ (ascii "</CreDtTm><NbOfTxs>" ++ (decimal n
+    ++ (ascii "</NbOfTxs><CtrlSum>" ++ (euros sum
+    ++ (ascii "</CtrlSum><InitgPty><Nm>" ++ (cr .initiatingName
+    ++ ascii "</Nm></InitgPty></GrpHdr>"))))))))))
+
+unfoldable pub messageBytes : Creditor → List (List Collection) → Bytes
+messageBytes cr bs =
+    openingBytes cr (length (concat bs)) (total (λ x. x .cents) (concat bs))
+    ++ (batchesBytes cr 1 bs ++ ascii "</CstmrDrctDbtInitn></Document>")
