@@ -6,7 +6,7 @@ use Prim.Native.Nat.{ℕ}
 use mathlib.Core.Bool.{Bool, true, false}
 use mathlib.Core.List.{List, [], _∷_, map, map-map}
 use mathlib.Core.Option.{Option, none, some}
-use mathlib.Core.Path.{_≡_, refl, ap, ap₂, sym, _∙_}
+use mathlib.Core.Path.{_≡_, refl, ap, ap₂, fun-ext, sym, _∙_}
 use Rattle.laws.specs.Bytes.{Bytes}
 use Rattle.tree.specs.Form.{Message, message}
 use Rattle.tree.specs.Pain008.{Document, declaration}
@@ -15,7 +15,7 @@ use Rattle.message.specs.declared.Told.{Told}
 use Rattle.message.specs.Message as said
 use Rattle.checking.specs.Check.{saidBy}
 use Rattle.listed.specs.Listed.{Terms, Collection}
-use Rattle.carries.specs.Carried.{textAt, termsFrom, collectionFrom, carriedIn, carriedBy}
+use Rattle.carries.specs.Carried.{textAt, termsBy, collectionBy, termsFrom, collectionFrom, carriedIn, carriedBy}
 use Rattle.carries.specs.Contents.{Content, contents, contentOf, is, before, parts, all, lastOr, the, worth, textOf, termsIn, collectionIn, collectionsIn, carriedOf}
 use Rattle.carries.proofs.Said.{said-contents}
 
@@ -81,20 +81,10 @@ module _ (s : Bytes) where
   -- ─── collections ───
 
   terms-seen : (p : List Told) → termsFrom s p ≡ termsIn (seen p)
-  terms-seen p = rw (worth-seen part.scheme p, worth-seen part.sequence p, text-seen part.collectionDate p) refl
+  terms-seen p = ap₂ termsBy (fun-ext (λ n. worth-seen n p)) (fun-ext (λ n. text-seen n p))
 
   collection-seen : (k : Terms) (p : List Told) → collectionFrom s k p ≡ collectionIn k (seen p)
-  collection-seen k p =
-      rw (
-        worth-seen part.amount p,
-        text-seen part.endToEnd p,
-        text-seen part.mandate p,
-        text-seen part.signatureDate p,
-        text-seen part.debtorBank p,
-        text-seen part.debtorName p,
-        text-seen part.debtorAccount p,
-        text-seen part.remittance p,
-      ) refl
+  collection-seen k p = ap₂ (λ (w : ℕ → ℕ) (t : ℕ → Bytes). collectionBy w t k) (fun-ext (λ n. worth-seen n p)) (fun-ext (λ n. text-seen n p))
 
   each-seen : (k : Terms) (ps : List (List Told)) → map (collectionFrom s k) ps ≡ map (collectionIn k) (map seen ps)
   each-seen k [] = refl

@@ -1,5 +1,6 @@
 -- WHAT A MESSAGE CARRIES: one collection for each transaction. To be believed; definitions only.
 --   textAt s o              the text of an element of the message s; empty where there is none
+--   termsBy, collectionBy   which part of a batch or a transaction is which field
 --   termsFrom s p           the terms of the batch whose events are p
 --   collectionFrom s k p    the collection of the transaction whose events are p, in a batch of the terms k
 --   carriedIn s p           the collections of the batch whose events are p
@@ -28,22 +29,29 @@ abbrev pub textAt : Bytes → Option Told → Bytes
 textAt s none = []
 textAt s (some t) = take (t .length) (drop (t .start) s)
 
-abbrev pub termsFrom : Bytes → List Told → Terms
-termsFrom s p = record { scheme = worthOf (the part.scheme p); sequence = worthOf (the part.sequence p); date = textAt s (the part.collectionDate p) }
+-- terms, and a collection of the terms k, by their parts: `worth n` is the number that the element of the part n tells, and `text n` its text
+abbrev pub termsBy : (ℕ → ℕ) → (ℕ → Bytes) → Terms
+termsBy worth text = record { scheme = worth part.scheme; sequence = worth part.sequence; date = text part.collectionDate }
+
+abbrev pub collectionBy : (ℕ → ℕ) → (ℕ → Bytes) → Terms → Collection
+collectionBy worth text k = record {
+  terms = k;
+  cents = worth part.amount;
+  endToEnd = text part.endToEnd;
+  mandate = text part.mandate;
+  signatureDate = text part.signatureDate;
+  bank = text part.debtorBank;
+  debtorName = text part.debtorName;
+  debtorAccount = text part.debtorAccount;
+  remittance = text part.remittance;
+}
 
 -- a bank without a BICFI is NOTPROVIDED, which a collection frame has as the empty BIC; a missing RmtInf is no remittance
+abbrev pub termsFrom : Bytes → List Told → Terms
+termsFrom s p = termsBy (λ n. worthOf (the n p)) (λ n. textAt s (the n p))
+
 abbrev pub collectionFrom : Bytes → Terms → List Told → Collection
-collectionFrom s k p = record {
-  terms = k;
-  cents = worthOf (the part.amount p);
-  endToEnd = textAt s (the part.endToEnd p);
-  mandate = textAt s (the part.mandate p);
-  signatureDate = textAt s (the part.signatureDate p);
-  bank = textAt s (the part.debtorBank p);
-  debtorName = textAt s (the part.debtorName p);
-  debtorAccount = textAt s (the part.debtorAccount p);
-  remittance = textAt s (the part.remittance p);
-}
+collectionFrom s k p = collectionBy (λ n. worthOf (the n p)) (λ n. textAt s (the n p)) k
 
 -- all of a batch have its terms
 abbrev pub carriedIn : Bytes → List Told → List Collection

@@ -25,6 +25,7 @@ use Rattle.tree.specs.Parts as part
 use Rattle.message.specs.declared.Told.{Told}
 use Rattle.message.specs.Message.{judgedAs}
 use Rattle.listed.specs.Listed.{Terms, Collection}
+use Rattle.carries.specs.Carried.{termsBy, collectionBy}
 
 -- ─── the contents of a tree ───
 
@@ -83,20 +84,10 @@ textOf none = []
 textOf (some t) = t .text
 
 abbrev pub termsIn : List Content → Terms
-termsIn p = record { scheme = worth (the part.scheme p); sequence = worth (the part.sequence p); date = textOf (the part.collectionDate p) }
+termsIn p = termsBy (λ n. worth (the n p)) (λ n. textOf (the n p))
 
 abbrev pub collectionIn : Terms → List Content → Collection
-collectionIn k p = record {
-  terms = k;
-  cents = worth (the part.amount p);
-  endToEnd = textOf (the part.endToEnd p);
-  mandate = textOf (the part.mandate p);
-  signatureDate = textOf (the part.signatureDate p);
-  bank = textOf (the part.debtorBank p);
-  debtorName = textOf (the part.debtorName p);
-  debtorAccount = textOf (the part.debtorAccount p);
-  remittance = textOf (the part.remittance p);
-}
+collectionIn k p = collectionBy (λ n. worth (the n p)) (λ n. textOf (the n p)) k
 
 -- of a batch
 abbrev pub collectionsIn : List Content → List Collection
