@@ -1,0 +1,2 @@
+-- Cases   the message of one list, byte for byte
+pub mod Cases
