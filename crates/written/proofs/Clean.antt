@@ -1,0 +1,91 @@
+-- TEXTS WITHOUT THE BYTE `<`: of such a text the tree leaves nothing out.
+--   clean s, Clean x, CleanCreditor cr   no byte of the text s is `<`; no text of the collection x, or of the creditor cr, has one
+--   keep-clean                           nothing of a clean text is left out
+--   digit-clean, decimal-clean, euros-clean, batch-id-clean, scheme-clean, sequence-clean   numbers and words are clean
+use Prim.Native.Nat.{ℕ, zero, suc, _+_, _≤_, _<_, _/_, _%_}
+use native.Mathlib.Nat.{mod-lt}
+use native.Mathlib.Omega.{arith}
+use mathlib.Core.Bool.{Bool, true, false, not, _&&_}
+use mathlib.Core.List.{List, [], _∷_, _++_}
+use mathlib.Core.Path.{_≡_, refl, ap, sym, _∙_}
+use lib.Dec.{T, eqb, ltb}
+use lib.ListN.{length, getD}
+use borrow.Author.Tests.{ne-eqb}
+use Rattle.laws.specs.Bytes.{Bytes, ascii, all}
+use Rattle.laws.specs.Lists.{keep, putIf}
+use Rattle.laws.proofs.Tests.{bool-cases, and-l, and-r, and-both, T-true}
+use Rattle.put.specs.Numerals.{digit, decimalOf, decimal, euros, batchId}
+use Rattle.tree.specs.Form.{inText}
+use Rattle.listed.specs.Listed.{Terms, Collection, Creditor}
+use Rattle.written.specs.Written.{schemeWord, sequenceWord}
+
+-- no byte of s is `<`
+abbrev pub clean : Bytes → Bool
+clean s = all inText s
+
+pub keep-clean : (s : Bytes) → T (clean s) → keep inText s ≡ s
+keep-clean [] t = refl
+keep-clean (c ∷ s) t =
+    rw (T-true (inText c) (and-l (inText c) (clean s) t)) (ap {B = Bytes} (λ (l : Bytes). c ∷ l) (keep-clean s (and-r (inText c) (clean s) t)))
+
+pub record Clean (x : Collection) : Type 0 where
+  pub date : T (clean (x .terms .date))
+  pub endToEnd : T (clean (x .endToEnd))
+  pub mandate : T (clean (x .mandate))
+  pub signatureDate : T (clean (x .signatureDate))
+  pub bank : T (clean (x .bank))
+  pub debtorName : T (clean (x .debtorName))
+  pub debtorAccount : T (clean (x .debtorAccount))
+  pub remittance : T (clean (x .remittance))
+
+pub record CleanCreditor (cr : Creditor) : Type 0 where
+  pub messageId : T (clean (cr .messageId))
+  pub creationTime : T (clean (cr .creationTime))
+  pub initiatingName : T (clean (cr .initiatingName))
+  pub name : T (clean (cr .name))
+  pub account : T (clean (cr .account))
+  pub bank : T (clean (cr .bank))
+  pub identifier : T (clean (cr .identifier))
+
+-- ─── numbers and words ───
+
+pub digit-clean : (n : ℕ) → T (inText (digit n))
+digit-clean n = rw (ne-eqb (48 + n % 10) 60 (λ e. omega (arith, mod-lt n {m = 10} (omega arith)))) tt
+
+pub clean-append : (s t : Bytes) → T (clean s) → T (clean t) → T (clean (s ++ t))
+clean-append [] t a b = b
+clean-append (c ∷ s) t a b = and-both (inText c) (clean (s ++ t)) (and-l (inText c) (clean s) a) (clean-append s t (and-r (inText c) (clean s) a) b)
+
+digits-clean : (most n : ℕ) → T (clean (decimalOf most n))
+unfolding decimalOf
+digits-clean zero n = tt
+digits-clean (suc most) n = go (ltb n 10) (and-both (inText (digit n)) true (digit-clean n) tt) (digits-clean most (n / 10))
+  where
+    go : (z : Bool) → T (clean (digit n ∷ [])) → T (clean (decimalOf most (n / 10))) → T (clean (elim z [ true ↦ digit n ∷ [] | false ↦ decimalOf most (n / 10) ++ (digit n ∷ []) ]))
+    go true a b = a
+    go false a b = clean-append (decimalOf most (n / 10)) (digit n ∷ []) b a
+
+pub decimal-clean : (n : ℕ) → T (clean (decimal n))
+decimal-clean n = digits-clean 20 n
+
+pub euros-clean : (n : ℕ) → T (clean (euros n))
+euros-clean n =
+    clean-append (decimal (n / 100)) (46 ∷ digit (n / 10) ∷ digit n ∷ []) (decimal-clean (n / 100))
+    (and-both (inText (digit (n / 10))) (clean (digit n ∷ [])) (digit-clean (n / 10)) (and-both (inText (digit n)) true (digit-clean n) tt))
+
+pub batch-id-clean : (n : ℕ) → T (clean (batchId n))
+batch-id-clean n =
+    and-both (inText (digit (n / 100))) (clean (digit (n / 10) ∷ digit n ∷ [])) (digit-clean (n / 100))
+    (and-both (inText (digit (n / 10))) (clean (digit n ∷ [])) (digit-clean (n / 10)) (and-both (inText (digit n)) true (digit-clean n) tt))
+
+pub scheme-clean : (n : ℕ) → T (clean (schemeWord n))
+scheme-clean zero = tt
+scheme-clean (suc zero) = tt
+scheme-clean (suc (suc n)) = tt
+
+pub sequence-clean : (n : ℕ) → T (clean (sequenceWord n))
+sequence-clean zero = tt
+sequence-clean (suc zero) = tt
+sequence-clean (suc (suc zero)) = tt
+sequence-clean (suc (suc (suc zero))) = tt
+sequence-clean (suc (suc (suc (suc n)))) = tt
