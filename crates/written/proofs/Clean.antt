@@ -2,21 +2,20 @@
 --   clean s, Clean x, CleanCreditor cr   no byte of the text s is `<`; no text of the collection x, or of the creditor cr, has one
 --   keep-clean                           nothing of a clean text is left out
 --   digit-clean, decimal-clean, euros-clean, batch-id-clean, scheme-clean, sequence-clean   numbers and words are clean
-use Prim.Native.Nat.{ℕ, zero, suc, _+_, _≤_, _<_, _/_, _%_}
+use Prim.Native.Nat.{ℕ, zero, suc, _+_, _/_, _%_}
 use native.Mathlib.Nat.{mod-lt}
 use native.Mathlib.Omega.{arith}
-use mathlib.Core.Bool.{Bool, true, false, not, _&&_}
-use mathlib.Core.List.{List, [], _∷_, _++_}
-use mathlib.Core.Path.{_≡_, refl, ap, sym, _∙_}
-use lib.Dec.{T, eqb, ltb}
-use lib.ListN.{length, getD}
+use mathlib.Core.Bool.{Bool, true, false}
+use mathlib.Core.List.{[], _∷_, _++_}
+use mathlib.Core.Path.{_≡_, refl, ap}
+use lib.Dec.{T, ltb}
 use borrow.Author.Tests.{ne-eqb}
-use Rattle.laws.specs.Bytes.{Bytes, ascii, all}
-use Rattle.laws.specs.Lists.{keep, putIf}
-use Rattle.laws.proofs.Tests.{bool-cases, and-l, and-r, and-both, T-true}
+use Rattle.laws.specs.Bytes.{Bytes, all}
+use Rattle.laws.specs.Lists.{keep}
+use Rattle.laws.proofs.Tests.{and-l, and-r, and-both, T-true}
 use Rattle.put.specs.Numerals.{digit, decimalOf, decimal, euros, batchId}
 use Rattle.tree.specs.Form.{inText}
-use Rattle.listed.specs.Listed.{Terms, Collection, Creditor}
+use Rattle.listed.specs.Listed.{Collection, Creditor}
 use Rattle.written.specs.Written.{schemeWord, sequenceWord}
 
 -- no byte of s is `<`

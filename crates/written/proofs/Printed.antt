@@ -9,18 +9,18 @@ use mathlib.Core.List.{List, [], _∷_, _++_, map, append-assoc, append-nil}
 use mathlib.Core.Path.{_≡_, refl, ap, ap₂, sym, _∙_}
 use lib.Dec.{T}
 use lib.ListN.{length, length-map}
-use Rattle.laws.specs.Bytes.{Bytes, ascii, all}
+use Rattle.laws.specs.Bytes.{Bytes, ascii}
 use Rattle.laws.specs.Lists.{total, All, concat, gather}
 use Rattle.laws.proofs.Tests.{T-true}
 use Rattle.put.specs.Numerals.{digit, decimal, euros}
-use Rattle.tree.specs.Form.{inText, Elem, Tree, Kids, print, printKids, message}
+use Rattle.tree.specs.Form.{inText, Elem, Tree, print, printKids, message}
 use Rattle.tree.specs.Parts as part
 use Rattle.tree.specs.Pain008.{declaration}
 use Rattle.tree.proofs.Onto.{bytes, kidBytes, bytes-print, kids-print}
-use Rattle.listed.specs.Listed.{Terms, Collection, Creditor}
+use Rattle.listed.specs.Listed.{Collection, Creditor}
 use Rattle.written.specs.Blocks.{more, several}
-use Rattle.written.specs.Written.{bankTree, remittanceTree, transactionTree, batchTree, batchTrees, headerTree, messageOf, schemeWord, sequenceWord, termsOf, noCollection}
-use Rattle.written.specs.Pieces.{bankBytes, remittanceBytes, paymentBytes, debtorBytes, transactionBytes, headBytes, batchBytes, batchesBytes, openingBytes, messageBytes}
+use Rattle.written.specs.Written.{bankTree, remittanceTree, transactionTree, batchTree, batchTrees, messageOf, schemeWord, sequenceWord, termsOf, noCollection}
+use Rattle.written.specs.Pieces.{bankBytes, remittanceBytes, transactionBytes, headBytes, batchBytes, batchesBytes, openingBytes, messageBytes}
 use Rattle.written.proofs.Clean.{clean, keep-clean, Clean, CleanCreditor, decimal-clean, euros-clean, digit-clean, scheme-clean, sequence-clean}
 
 -- ─── lists of trees ───
@@ -113,7 +113,7 @@ pub pieces-written : (cr : Creditor) (bs : List (List Collection)) → CleanCred
     → messageBytes cr bs ≡ message declaration (messageOf cr bs)
 unfolding messageBytes openingBytes
 pieces-written cr bs k l h = sym (
-    rw (append-nil, ← append-nil (print (messageOf cr bs .body)), ← bytes-print (messageOf cr bs .body) []) (
+    rw (← bytes-print (messageOf cr bs .body) []) (
     simp (
       append-assoc,
       append-nil,
