@@ -1,15 +1,17 @@
 -- TEXTS WITHOUT THE BYTE `<`: of such a text the tree leaves nothing out.
 --   clean s, Clean x, CleanCreditor cr   no byte of the text s is `<`; no text of the collection x, or of the creditor cr, has one
+--   all-append                           every byte of two texts, one behind the other, is of a class
+--   decimal-cases, decimal-all           a written number by cases, and what holds of each of its digits
 --   keep-clean                           nothing of a clean text is left out
 --   digit-clean, decimal-clean, euros-clean, batch-id-clean, scheme-clean, sequence-clean   numbers and words are clean
-use Prim.Native.Nat.{ℕ, zero, suc, _+_, _/_, _%_}
+use Prim.Native.Nat.{ℕ, zero, suc, _+_, _≤_, _<_, _/_, _%_}
 use native.Mathlib.Nat.{mod-lt}
 use native.Mathlib.Omega.{arith}
 use mathlib.Core.Bool.{Bool, true, false}
 use mathlib.Core.List.{[], _∷_, _++_}
 use mathlib.Core.Path.{_≡_, refl, ap}
 use lib.Dec.{T, ltb}
-use borrow.Author.Tests.{ne-eqb}
+use borrow.Author.Tests.{ltb-true, ltb-false, ne-eqb}
 use Rattle.laws.specs.Bytes.{Bytes, all}
 use Rattle.laws.specs.Lists.{keep}
 use Rattle.laws.proofs.Tests.{and-l, and-r, and-both, T-true}
@@ -51,25 +53,32 @@ pub record CleanCreditor (cr : Creditor) : Type 0 where
 pub digit-clean : (n : ℕ) → T (inText (digit n))
 digit-clean n = rw (ne-eqb (48 + n % 10) 60 (λ e. omega (arith, mod-lt n {m = 10} (omega arith)))) tt
 
-pub clean-append : (s t : Bytes) → T (clean s) → T (clean t) → T (clean (s ++ t))
-clean-append [] t a b = b
-clean-append (c ∷ s) t a b = and-both (inText c) (clean (s ++ t)) (and-l (inText c) (clean s) a) (clean-append s t (and-r (inText c) (clean s) a) b)
+pub all-append : (p : ℕ → Bool) (s t : Bytes) → T (all p s) → T (all p t) → T (all p (s ++ t))
+all-append p [] t a b = b
+all-append p (c ∷ s) t a b = and-both (p c) (all p (s ++ t)) (and-l (p c) (all p s) a) (all-append p s t (and-r (p c) (all p s) a) b)
 
-digits-clean : (most n : ℕ) → T (clean (decimalOf most n))
+-- by cases on whether one digit is left
+pub decimal-cases : (P : Bytes → Type 0) (most n : ℕ) → (n < 10 → P (digit n ∷ [])) → (10 ≤ n → P (decimalOf most (n / 10) ++ (digit n ∷ []))) → P (decimalOf (suc most) n)
 unfolding decimalOf
-digits-clean zero n = tt
-digits-clean (suc most) n = go (ltb n 10) (and-both (inText (digit n)) true (digit-clean n) tt) (digits-clean most (n / 10))
+decimal-cases P most n f g = go (ltb n 10) refl
   where
-    go : (z : Bool) → T (clean (digit n ∷ [])) → T (clean (decimalOf most (n / 10))) → T (clean (elim z [ true ↦ digit n ∷ [] | false ↦ decimalOf most (n / 10) ++ (digit n ∷ []) ]))
-    go true a b = a
-    go false a b = clean-append (decimalOf most (n / 10)) (digit n ∷ []) b a
+    go : (z : Bool) → ltb n 10 ≡ z → P (elim z [ true ↦ digit n ∷ [] | false ↦ decimalOf most (n / 10) ++ (digit n ∷ []) ])
+    go true e = f (ltb-true n 10 e)
+    go false e = g (ltb-false n 10 e)
+
+pub decimal-all : (p : ℕ → Bool) → ((n : ℕ) → T (p (digit n))) → (most n : ℕ) → T (all p (decimalOf most n))
+unfolding decimalOf
+decimal-all p f zero n = tt
+decimal-all p f (suc most) n =
+    let d : T (all p (digit n ∷ [])) = and-both (p (digit n)) true (f n) tt in
+    decimal-cases (λ s. T (all p s)) most n (λ h. d) (λ h. all-append p (decimalOf most (n / 10)) (digit n ∷ []) (decimal-all p f most (n / 10)) d)
 
 pub decimal-clean : (n : ℕ) → T (clean (decimal n))
-decimal-clean n = digits-clean 20 n
+decimal-clean n = decimal-all inText digit-clean 20 n
 
 pub euros-clean : (n : ℕ) → T (clean (euros n))
 euros-clean n =
-    clean-append (decimal (n / 100)) (46 ∷ digit (n / 10) ∷ digit n ∷ []) (decimal-clean (n / 100))
+    all-append inText (decimal (n / 100)) (46 ∷ digit (n / 10) ∷ digit n ∷ []) (decimal-clean (n / 100))
     (and-both (inText (digit (n / 10))) (clean (digit n ∷ [])) (digit-clean (n / 10)) (and-both (inText (digit n)) true (digit-clean n) tt))
 
 pub batch-id-clean : (n : ℕ) → T (clean (batchId n))

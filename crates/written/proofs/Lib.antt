@@ -1,8 +1,10 @@
--- Cases    the message of one list, byte for byte
--- Clean    texts without the byte `<`
--- Texts    good texts are clean and short
--- Printed  the pieces are the bytes of the tree
+-- Cases     the message of one list, byte for byte
+-- Clean     texts without the byte `<`
+-- Texts     good texts are clean and short
+-- Numerals  written numbers and words are good texts
+-- Printed   the pieces are the bytes of the tree
 pub mod Cases
 pub mod Clean
 pub mod Texts
+pub mod Numerals
 pub mod Printed

@@ -21,7 +21,7 @@ use Rattle.text.specs.Rules.{must, good, plain, identifier, name, remittance, p
 use Rattle.tree.specs.Form.{inText}
 use Rattle.listed.specs.Listed.{Collection, Creditor}
 use Rattle.listed.specs.Good.{emptyOr, GoodCollection, GoodCreditor}
-use Rattle.written.proofs.Clean.{clean, clean-append, Clean, CleanCreditor}
+use Rattle.written.proofs.Clean.{clean, all-append, Clean, CleanCreditor}
 
 pub record Short (n : ℕ) (s : Bytes) : Type 0 where
   pub clean : T (clean s)
@@ -67,7 +67,7 @@ widen n m s h a = record { clean = a .clean; most = omega (arith, a .most) }
 -- a front and a rest
 parts-short : (k n m : ℕ) (s : Bytes) → Short n (take k s) → Short m (drop k s) → Short (n + m) s
 parts-short k n m s a b = record {
-  clean = rw (take-append-drop k s) at (clean-append (take k s) (drop k s) (a .clean) (b .clean));
+  clean = rw (take-append-drop k s) at (all-append inText (take k s) (drop k s) (a .clean) (b .clean));
   most = omega (arith, a .most, b .most, rw (take-append-drop k s) at (length-append (take k s) (drop k s)));
 }
 
