@@ -2,7 +2,15 @@
 -- Said     what a message says is what the elements of its tree hold
 -- Finds    so what is found in it is found among the contents
 -- Exact    the exact counts and cents are those of the collections carried; acceptance by the contents
+-- Held     the contents of the written message
+-- Among    finding elements among contents that are put together from pieces
+-- Collected   what the contents of the written message carry
+-- Written   the written message is accepted and carries its batches
 pub mod Fewest
 pub mod Said
 pub mod Finds
 pub mod Exact
+pub mod Held
+pub mod Among
+pub mod Collected
+pub mod Written

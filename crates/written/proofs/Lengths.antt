@@ -1,5 +1,6 @@
 -- THE LENGTH OF THE WRITTEN MESSAGE for a good creditor and good collections, which a message may have.
 --   transaction-length, head-length, batch-length   a transaction has at most 700 bytes, a batch at most 705 and its transactions
+--   all-concat, cents-most                          the collections of all batches are good; what good collections are worth at most
 --   message-length                                  THE BOUND: of at most 1,000 collections in at most 64 batches it is a message's longest at most
 use Prim.Native.Nat.{ℕ, zero, suc, _+_, _*_, _^_, _≤_, _<_}
 use native.Mathlib.Omega.{arith}
@@ -49,11 +50,11 @@ transactions-length : (xs : List Collection) → All GoodCollection xs → lengt
 transactions-length [] h = omega arith
 transactions-length (x ∷ xs) h = omega (arith, length-append (transactionBytes x) (gather transactionBytes xs), transaction-length x (h .0), transactions-length xs (h .1))
 
-all-concat : (bs : List (List Collection)) → All (All GoodCollection) bs → All GoodCollection (concat bs)
+pub all-concat : (bs : List (List Collection)) → All (All GoodCollection) bs → All GoodCollection (concat bs)
 all-concat [] h = tt
 all-concat (b ∷ bs) h = All-append GoodCollection b (concat bs) (h .0) (all-concat bs (h .1))
 
-cents-most : (xs : List Collection) → All GoodCollection xs → total (λ x. x .cents) xs ≤ length xs * mostCents
+pub cents-most : (xs : List Collection) → All GoodCollection xs → total (λ x. x .cents) xs ≤ length xs * mostCents
 cents-most [] h = omega arith
 cents-most (x ∷ xs) h = omega (arith, h .0 .most, cents-most xs (h .1))
 
