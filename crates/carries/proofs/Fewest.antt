@@ -1,19 +1,16 @@
 -- THE FEWEST BATCHES, OF MESSAGES (demand 3). All collections of a batch have its terms, so what holds of batches of one terms holds of every accepted message.
---   terms-decide       the test of terms decides
 --   carried-batches    there are as many batches of collections as batches
 --   batches-within     an accepted message has at most the profile's batches
 --   fewest-batches     a message that carries a list within the ceiling has no fewer batches than are needed
 --   none-exists        where more are needed than the profile has, no message carries the list
 use Prim.Native.Nat.{ℕ, suc, _≤_, _<_}
 use native.Mathlib.Omega.{arith}
-use mathlib.Core.Bool.{Bool, true, false, _&&_}
+use mathlib.Core.Bool.{Bool, true, false}
 use mathlib.Core.List.{List, [], _∷_, map}
 use mathlib.Core.Path.{_≡_, refl, ap, sym, _∙_}
-use lib.Dec.{T, eqb, eqb→eq, eqb-refl}
 use lib.ListN.{length, length-map}
-use Rattle.laws.specs.Bytes.{Bytes, agree, same}
+use Rattle.laws.specs.Bytes.{Bytes}
 use Rattle.laws.specs.Lists.{All}
-use Rattle.laws.proofs.Tests.{and-l, and-r, and-both}
 use Rattle.profile.specs.Limits.{mostBatches}
 use Rattle.tree.specs.Form.{Message, message}
 use Rattle.tree.specs.Pain008.{Document, declaration}
@@ -21,38 +18,11 @@ use Rattle.tree.specs.Parts as part
 use Rattle.message.specs.declared.Told.{Told}
 use Rattle.message.specs.Message.{is, all, parts, before, batchOf, batchesOf}
 use Rattle.checking.specs.Check.{saidBy}
-use Rattle.bundle.specs.Bundle.{Decides, Fits, need}
+use Rattle.bundle.specs.Bundle.{Fits, need}
 use Rattle.bundle.proofs.Fewest.{fewest}
 use Rattle.listed.specs.Listed.{Terms, sameTerms, Collection}
+use Rattle.listed.proofs.Terms.{terms-decide}
 use Rattle.carries.specs.Carried.{termsFrom, collectionFrom, carriedIn, carriedBy, Accepted, CarriesList}
-
--- ─── terms ───
-
-same-eq : (s t : Bytes) → T (same s t) → s ≡ t
-same-eq [] [] h = refl
-same-eq [] (b ∷ t) h = absurd h
-same-eq (a ∷ s) [] h = absurd h
-same-eq (a ∷ s) (b ∷ t) h =
-    let e : a ≡ b = eqb→eq a b (and-l (eqb a b) (same s t) h) in let f : s ≡ t = same-eq s t (and-r (eqb a b) (same s t) h) in cc
-
-same-self : (s : Bytes) → T (same s s)
-same-self [] = tt
-same-self (a ∷ s) = and-both (eqb a a) (same s s) (eqb-refl a) (same-self s)
-
-terms-eq : (a a′ b b′ : ℕ) (d d′ : Bytes) → a ≡ a′ → b ≡ b′ → d ≡ d′ → _≡_ {A = Terms} (record { scheme = a; sequence = b; date = d }) (record { scheme = a′; sequence = b′; date = d′ })
-terms-eq a a′ b b′ d d′ e f g = cc
-
-pub terms-decide : Decides sameTerms
-terms-decide = record {
-  right = λ k j h.
-      let r : Bool = eqb (k .sequence) (j .sequence) && same (k .date) (j .date) in
-      let a : k .scheme ≡ j .scheme = eqb→eq (k .scheme) (j .scheme) (and-l (eqb (k .scheme) (j .scheme)) r h) in
-      let b : k .sequence ≡ j .sequence = eqb→eq (k .sequence) (j .sequence) (and-l (eqb (k .sequence) (j .sequence)) (same (k .date) (j .date)) (and-r (eqb (k .scheme) (j .scheme)) r h)) in
-      let c : k .date ≡ j .date = same-eq (k .date) (j .date) (and-r (eqb (k .sequence) (j .sequence)) (same (k .date) (j .date)) (and-r (eqb (k .scheme) (j .scheme)) r h)) in
-      terms-eq (k .scheme) (j .scheme) (k .sequence) (j .sequence) (k .date) (j .date) a b c;
-  self = λ k. and-both (eqb (k .scheme) (k .scheme)) (eqb (k .sequence) (k .sequence) && same (k .date) (k .date)) (eqb-refl (k .scheme))
-      (and-both (eqb (k .sequence) (k .sequence)) (same (k .date) (k .date)) (eqb-refl (k .sequence)) (same-self (k .date)));
-}
 
 -- ─── batches ───
 

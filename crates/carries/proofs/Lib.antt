@@ -6,6 +6,7 @@
 -- Among    finding elements among contents that are put together from pieces
 -- Collected   what the contents of the written message carry
 -- Written   the written message is accepted and carries its batches
+-- Demand3   the batches of a list: their message, the fewest, and when there is none
 pub mod Fewest
 pub mod Said
 pub mod Finds
@@ -14,3 +15,4 @@ pub mod Held
 pub mod Among
 pub mod Collected
 pub mod Written
+pub mod Demand3
