@@ -1,3 +1,4 @@
+-- Cases    what one message carries
 -- Fewest   no accepted message that carries a list within the ceiling has fewer batches
 -- Said     what a message says is what the elements of its tree hold
 -- Finds    so what is found in it is found among the contents
@@ -7,6 +8,7 @@
 -- Collected   what the contents of the written message carry
 -- Written   the written message is accepted and carries its batches
 -- Demand3   the batches of a list: their message, the fewest, and when there is none
+pub mod Cases
 pub mod Fewest
 pub mod Said
 pub mod Finds

@@ -4,6 +4,7 @@
 --   termsFrom s p           the terms of the batch whose events are p
 --   collectionFrom s k p    the collection of the transaction whose events are p, in a batch of the terms k
 --   carriedIn s p           the collections of the batch whose events are p
+--   carriedFrom s ts        the collections of a message s that says ts, batch by batch
 --   carriedBy m             THE COLLECTIONS of the message m, batch by batch
 --   Accepted m              m belongs to the profile, and every declared count and sum is the exact one (demand 2)
 --   CarriesList m c xs      m is accepted and carries the collections xs, repeats counted, with no batch above the ceiling c
@@ -57,8 +58,12 @@ collectionFrom s k p = collectionBy (λ n. worthOf (the n p)) (λ n. textAt s (t
 abbrev pub carriedIn : Bytes → List Told → List Collection
 carriedIn s p = map (collectionFrom s (termsFrom s p)) (parts part.transaction p)
 
+-- batch by batch
+abbrev pub carriedFrom : Bytes → List Told → List (List Collection)
+carriedFrom s ts = map (carriedIn s) (parts part.batch ts)
+
 unfoldable pub carriedBy : Message Document → List (List Collection)
-carriedBy m = map (carriedIn (message declaration m)) (parts part.batch (saidBy m))
+carriedBy m = carriedFrom (message declaration m) (saidBy m)
 
 -- ─── carrying a list ───
 
