@@ -5,7 +5,7 @@
 --   numbers-length          and a number for each; numbers-fit: as many as the table of starts has, but for one
 --   number-at               the number of collection i, from its line
 --   start-there, number-read   line i + 1 starts within the list; the number of what is read there
---   starts-front            a table that has the starts at its front, as far as there are lines
+--   starts-whole            a table with a place for each line holds the starts and nothing else
 use Prim.Native.Nat.{ℕ, zero, suc, _+_, _-_, _*_, _<_, _≤_, min}
 use native.Mathlib.Nat.{not-suc-le-zero, le-of-suc-le-suc}
 use native.Mathlib.Omega.{arith}
@@ -13,10 +13,11 @@ use mathlib.Core.Bool.{false}
 use mathlib.Core.List.{List, [], _∷_, _++_, map}
 use mathlib.Core.Path.{_≡_, refl, ap, sym, _∙_}
 use lib.ListN.{length, take, drop, getD, length-map, length-drop, drop-of-length-le}
-use lib.Seq.{getD-drop, take-at, take-all}
+use lib.Seq.{getD-drop, take-all}
 use Rattle.laws.specs.Bytes.{Bytes, span}
 use Rattle.laws.specs.Put.{putAt}
 use Rattle.laws.proofs.Loops.{drop-step}
+use Rattle.laws.proofs.Puts.{put-all}
 use Rattle.text.specs.Rules.{told, date}
 use Rattle.frames.specs.Lines.{Line, notEnd, lines, starts}
 use Rattle.frames.specs.Hex.{unhex}
@@ -104,10 +105,5 @@ module _ (s : Bytes) (t : List ℕ) (e : t ≡ starts s) (i : ℕ) (h : i + 1 < 
       let k : getD t (i + 1) 0 + n - getD t (i + 1) 0 ≡ n = omega arith in
       g ∙ rw (k, f, e) (sym (number-at s i line-there))
 
--- n numbers of a table of which the front is a list
-front-of : (t l : List ℕ) → length l ≤ length t → take (length l) (putAt t 0 (take (length t) l)) ≡ l
-unfolding putAt
-front-of t l h = rw (take-all (length t) l h) (take-at l (drop (0 + length l) t) (length l) refl)
-
-pub starts-front : (s : Bytes) (t : List ℕ) (n : ℕ) → n ≡ length (lines s) → n ≤ length t → take n (putAt t 0 (take (length t) (starts s))) ≡ starts s
-starts-front s t n e h = let f : n ≡ length (starts s) = e ∙ sym (starts-number s) in rw f (front-of t (starts s) (omega arith))
+pub starts-whole : (s : Bytes) (t : List ℕ) → length t ≡ length (lines s) → putAt t 0 (take (length t) (starts s)) ≡ starts s
+starts-whole s t h = rw (take-all (length t) (starts s) (omega (arith, starts-number s))) (put-all t (starts s) (omega (arith, starts-number s)))

@@ -1,10 +1,13 @@
-// What a day list says of its collections, as numbers: the terms of each.
+// The terms of the collections of a day list as numbers, and by them the batch of each.
 ghost use mathlib.Core.Path.{_≡_};
 ghost use Prim.Native.Nat.{_+_};
 ghost use lib.ListN.{length};
 ghost use Rattle.frames.specs.Hex.{unhex};
 ghost use Rattle.frames.specs.Lines.{starts};
 ghost use Rattle.text.specs.Rules.{told, date};
+ghost use Rattle.daylist.specs.declared.JudgedList.the-variants.{Good};
+ghost use Rattle.daylist.specs.Stages.{judgedList};
+ghost use Rattle.bundle.specs.Labels.{needOf, labelsOf};
 ghost use Rattle.listed.specs.Listed.{collectionOf, termsNumber, numbersOf};
 use frames::Field;
 use frames::hex;
@@ -60,4 +63,36 @@ pub fn terms_numbers(list: &[u8], table: &[usize], numbers: &mut [u64])
         numbers[i] = terms_number(&list[at..end]);
         i += 1;
     }
+}
+
+// The batches of a list that was judged good, with a place for the numbers of its collections' terms.
+fn label_in(
+    list: &[u8],
+    ceiling: u64,
+    table: &mut [usize],
+    numbers: &mut [u64],
+    labels: &mut [u64],
+) -> u64
+    requires { ⌜ judgedList (now list) ceiling ≡ Good (length (now labels)) ⌝ }
+    requires { ⌜ (length (now table) ≡ length (now labels) + 1) × (length (now numbers) ≡ length (now labels)) ⌝ }
+    ensures { λ r. ⌜ r ≡ needOf ceiling (numbersOf (now (list .entry))) ⌝ }
+    ensures { λ _. ⌜ now (table .exit) ≡ starts (now (list .entry)) ⌝ }
+    ensures { λ _. ⌜ now (labels .exit) ≡ labelsOf ceiling (numbersOf (now (list .entry))) ⌝ }
+{
+    frames::lines::line_starts(list, table);
+    terms_numbers(list, table, numbers);
+    bundle::label(numbers, ceiling, labels)
+}
+
+// The batches of a list that was judged good: `table` gets where each line starts, `labels` the number of each collection's batch, from 0. Answers how many batches are needed.
+pub fn label(list: &[u8], ceiling: u64, table: &mut [usize], labels: &mut [u64]) -> u64
+    requires { ⌜ judgedList (now list) ceiling ≡ Good (length (now labels)) ⌝ }
+    requires { ⌜ length (now table) ≡ length (now labels) + 1 ⌝ }
+    ensures { λ r. ⌜ r ≡ needOf ceiling (numbersOf (now (list .entry))) ⌝ }
+    ensures { λ _. ⌜ now (table .exit) ≡ starts (now (list .entry)) ⌝ }
+    ensures { λ _. ⌜ now (labels .exit) ≡ labelsOf ceiling (numbersOf (now (list .entry))) ⌝ }
+{
+    let mut numbers = [0u64; 1000];
+    let collections = labels.len();
+    label_in(list, ceiling, table, &mut numbers[..collections], labels)
 }
