@@ -8,6 +8,7 @@
 -- Collected   what the contents of the written message carry
 -- Written   the written message is accepted and carries its batches
 -- Demand3   the batches of a list: their message, the fewest, and when there is none
+-- Lists     the same of every list that is judged good
 pub mod Cases
 pub mod Fewest
 pub mod Said
@@ -18,3 +19,4 @@ pub mod Among
 pub mod Collected
 pub mod Written
 pub mod Demand3
+pub mod Lists
