@@ -1,21 +1,21 @@
 -- WHAT THE CONTENTS OF THE WRITTEN MESSAGE CARRY: its batches, with every collection as it was.
---   collection-held        a good collection is read back from its transaction
---   head-finds             the one element of each part of a batch's head
---   terms-held             a batch's terms are read back
---   batch-collections      the collections of a batch
---   message-batches        the batches of the message
---   message-carries        the collections of the message, batch by batch
-use Prim.Native.Nat.{ℕ, suc, _≤_, _<_}
+--   collection-held            a good collection is read back from its transaction
+--   behind-without             behind a batch's head no element is of a part below that of a transaction
+--   count-found, sum-found     the declarations of a batch
+--   transactions-held          the transactions of a batch
+--   batch-collections          the collections of a batch: its terms are read back, and each collection
+--   batch-piece                a batch is the elements from its first up to the next batch
+--   message-batches            the batches of the message
+use Prim.Native.Nat.{ℕ, _≤_, _<_}
 use native.Mathlib.Omega.{arith}
-use mathlib.Core.Bool.{Bool, true, false}
 use mathlib.Core.List.{List, [], _∷_, _++_, map}
-use mathlib.Core.Option.{Option, none, some}
+use mathlib.Core.Option.{none, some}
 use mathlib.Core.Path.{_≡_, refl, ap, ap₂, sym, _∙_}
 use lib.Dec.{T}
 use lib.ListN.{length, drop}
 use Rattle.laws.specs.Bytes.{Bytes}
-use Rattle.laws.specs.Lists.{All, concat, gather}
-use Rattle.put.specs.Numerals.{decimal, euros, batchId}
+use Rattle.laws.specs.Lists.{All, gather}
+use Rattle.put.specs.Numerals.{decimal, euros}
 use Rattle.text.specs.declared.Rule.the-variants.{Amount, Count, Sum, Date, Scheme, Sequence}
 use Rattle.text.specs.Rules.{told, judged}
 use Rattle.tree.specs.Parts as part
@@ -24,8 +24,8 @@ use Rattle.listed.specs.Listed.{Terms, Collection, Creditor}
 use Rattle.listed.specs.Good.{GoodTerms, GoodCollection}
 use Rattle.written.specs.Written.{schemeWord, sequenceWord, termsOf}
 use Rattle.written.proofs.Numerals.{amount-good, scheme-good, sequence-good}
-use Rattle.carries.specs.Contents.{Content, parts, all, lastOr, the, worth, textOf, termsIn, collectionIn, collectionsIn, carriedOf, cents}
-use Rattle.carries.specs.Held.{box, txt, bankHeld, remittanceHeld, debtor, transactionHeld, scheme, headHeld, batchHeld, openingHeld, messageHeld}
+use Rattle.carries.specs.Contents.{Content, parts, all, lastOr, the, worth, textOf, termsIn, collectionIn, collectionsIn, cents}
+use Rattle.carries.specs.Held.{box, txt, bankHeld, remittanceHeld, debtor, transactionHeld, scheme, headHeld, batchHeld, messageHeld}
 use Rattle.carries.proofs.Among.{every, without, above, every-append, every-gather, above-without, all-without, parts-without, Piece, parts-gather}
 
 -- ─── a transaction ───

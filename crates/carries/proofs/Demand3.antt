@@ -1,17 +1,18 @@
 -- DEMAND 3, of good collections xs and a good creditor: as many collections as a list may have, at a ceiling from 1.
 --   bundle-ready          the batches of `bundle` are ready to be written, where no more are needed than the profile has
+--   message-carried       their message carries these batches
 --   message-carries       their message is accepted and carries the collections, with no batch above the ceiling
 --   message-fewest        no accepted message that carries the collections with no batch above the ceiling has fewer batches
 --   refused-exactly       more batches are needed than the profile has exactly when no such message exists
-use Prim.Native.Nat.{ℕ, zero, suc, _+_, _≤_, _<_}
+use Prim.Native.Nat.{ℕ, zero, suc, _≤_, _<_}
 use native.Mathlib.Decide.{decLe}
 use native.Mathlib.Omega.{arith}
-use mathlib.Core.Bool.{Bool, true}
-use mathlib.Core.List.{List, [], _∷_, map}
-use mathlib.Core.Path.{_≡_, refl, ap, sym, subst, subst⁻¹, _∙_}
+use mathlib.Core.Bool.{Bool}
+use mathlib.Core.List.{List, [], _∷_}
+use mathlib.Core.Path.{_≡_, sym, subst⁻¹, _∙_}
 use mathlib.Core.Logic.{_↔_}
 use lib.ListN.{length, drop}
-use Rattle.laws.specs.Lists.{count, keep, All, concat}
+use Rattle.laws.specs.Lists.{keep, All, concat}
 use Rattle.laws.proofs.Counts.{All-putIf, All-map, All-take, All-drop, All-gather}
 use Rattle.profile.specs.Limits.{mostBatches, mostCollections}
 use Rattle.tree.specs.Form.{Message}
@@ -23,6 +24,7 @@ use Rattle.listed.specs.Good.{GoodCollection, GoodCreditor}
 use Rattle.listed.proofs.Terms.{terms-decide}
 use Rattle.written.specs.Written.{termsOf, messageOf}
 use Rattle.carries.specs.Carried.{carriedBy, CarriesList}
+use Rattle.carries.proofs.Sums.{same-length}
 use Rattle.carries.proofs.Fewest.{fewest-batches, none-exists}
 use Rattle.carries.proofs.Written.{GoodBatch, Ready, written-accepted, written-carries}
 
@@ -44,13 +46,6 @@ module _ {X : Type 0} (P : X → Type 0) where
       (λ k. cut-all (length (having terms eq k xs)) c (having terms eq k xs) (keep-all (λ x. eq k (terms x)) xs a))
 
 module _ {A : Type 0} where
-  count-all : (xs : List A) → count (λ x. true) xs ≡ length xs
-  count-all [] = refl
-  count-all (x ∷ xs) = omega (arith, count-all xs)
-
-  same-length : (xs ys : List A) → Same xs ys → length xs ≡ length ys
-  same-length xs ys h = sym (count-all xs) ∙ h (λ x. true) ∙ count-all ys
-
   concat-some : (bs : List (List A)) → 1 ≤ length (concat bs) → 1 ≤ length bs
   concat-some [] h = h
   concat-some (b ∷ bs) h = omega arith
@@ -97,10 +92,13 @@ module _ (c : ℕ) (xs : List Collection) (h : 1 ≤ c) where
               (bundle-all GoodCollection termsIn sameTerms c xs g));
         }
 
+    pub message-carried : need termsIn sameTerms c xs ≤ mostBatches → carriedBy (messageOf cr batches) ≡ batches
+    message-carried few = written-carries cr batches (bundle-ready few)
+
     pub message-carries : need termsIn sameTerms c xs ≤ mostBatches → CarriesList (messageOf cr batches) c xs
     message-carries few =
         let r : Ready cr batches = bundle-ready few in
-        let e : carriedBy (messageOf cr batches) ≡ batches = written-carries cr batches r in record {
+        let e : carriedBy (messageOf cr batches) ≡ batches = message-carried few in record {
           accepted = written-accepted cr batches r;
           same = subst⁻¹ (λ (bs : List (List Collection)). Same (concat bs) xs) e (batches-same termsIn sameTerms terms-decide c xs h);
           within = subst⁻¹ (λ (bs : List (List Collection)). All (λ b. length b ≤ c) bs) e

@@ -1,29 +1,32 @@
 -- THE EXACT COUNTS AND CENTS OF A MESSAGE ARE THOSE OF THE COLLECTIONS THAT IT CARRIES; and a message is accepted by the contents of its tree.
 --   count-carried, sum-carried       of a batch
 --   counts-carried, sums-carried     of all batches
+--   totals-carried                   the totals of a message are those of its collections
 --   profile-contents                 the contents are within the profile: so is what the message says
 --   agree-contents                   every declared count and sum is that of the collections: all agree
-use Prim.Native.Nat.{ℕ, _+_, _≤_}
-use native.Mathlib.Omega.{arith}
-use mathlib.Core.List.{List, [], _∷_, _++_, map}
+use Prim.Native.Nat.{ℕ, _+_}
+use mathlib.Core.List.{List, [], _∷_, map}
 use mathlib.Core.Option.{Option, none, some}
-use mathlib.Core.Path.{_≡_, refl, ap, ap₂, sym, subst, _∙_}
+use mathlib.Core.Path.{_≡_, refl, ap, ap₂, sym, _∙_}
 use lib.Dec.{T}
 use lib.ListN.{length, length-map, length-append}
 use Rattle.laws.specs.Bytes.{Bytes}
 use Rattle.laws.specs.Lists.{total, All, concat}
 use Rattle.laws.proofs.Counts.{total-append}
+use Rattle.profile.specs.declared.Totals.{Totals}
 use Rattle.text.specs.Rules.{good}
 use Rattle.tree.specs.Form.{Message, message}
 use Rattle.tree.specs.Pain008.{Document, declaration}
 use Rattle.tree.specs.Parts as part
 use Rattle.message.specs.declared.Told.{Told}
 use Rattle.message.specs.Message as said
+use Rattle.message.specs.Verdict.{totalsOf}
 use Rattle.checking.specs.Check.{saidBy}
 use Rattle.checking.specs.Demand2.{Agrees, AllAgree, InProfile}
 use Rattle.listed.specs.Listed.{Terms, Collection}
-use Rattle.carries.specs.Carried.{termsFrom, collectionFrom, carriedIn}
-use Rattle.carries.specs.Contents.{Content, contents, contentOf, parts, all, the, carriedOf, collectionsIn, ProfileIn, Agreed, cents, BatchAgreed, AgreedIn}
+use Rattle.carries.specs.Carried.{termsFrom, collectionFrom, carriedIn, carriedBy}
+use Rattle.carries.specs.Contents.{contents, contentOf, parts, all, the, carriedOf, collectionsIn, ProfileIn, Agreed, cents, BatchAgreed, AgreedIn}
+use Rattle.carries.proofs.Fewest.{carried-batches}
 use Rattle.carries.proofs.Said.{said-contents}
 use Rattle.carries.proofs.Finds.{seen, seenIf, all-seen, the-seen, parts-seen, in-seen, carried-seen}
 
@@ -97,6 +100,22 @@ module _ (s : Bytes) where
   }
 
 -- ─── messages ───
+
+abbrev pub totalsIn : List (List Collection) → Totals
+totalsIn bs = record { batches = length bs; transactions = record { 0 = length (concat bs) }; cents = record { 0 = cents (concat bs) } }
+
+pub same-totals : (a a′ b b′ c c′ : ℕ) → a ≡ a′ → b ≡ b′ → c ≡ c′
+    → _≡_ {A = Totals} (record { batches = a; transactions = record { 0 = b }; cents = record { 0 = c } }) (record { batches = a′; transactions = record { 0 = b′ }; cents = record { 0 = c′ } })
+same-totals a a′ b b′ c c′ e f g = cc
+
+pub totals-carried : (m : Message Document) → totalsOf (said.batchesOf (saidBy m)) ≡ totalsIn (carriedBy m)
+unfolding carriedBy
+totals-carried m =
+    let s = message declaration m in
+    let ps = said.parts part.batch (saidBy m) in
+    sym (
+    same-totals (length (carriedBy m)) (length (said.batchesOf (saidBy m))) (length (concat (carriedBy m))) (total said.count (said.batchesOf (saidBy m))) (cents (concat (carriedBy m)))
+    (total said.sum (said.batchesOf (saidBy m))) (carried-batches m) (counts-carried s ps) (sums-carried s ps))
 
 pub profile-contents : (m : Message Document) → ProfileIn (contents (m .body) []) → InProfile (saidBy m)
 profile-contents m h = profile-seen (message declaration m) (saidBy m) (rw (said-contents m) h)

@@ -4,9 +4,9 @@
 --   carried-contents                   the collections of a message are those of its contents
 use Prim.Native.Nat.{ℕ}
 use mathlib.Core.Bool.{Bool, true, false}
-use mathlib.Core.List.{List, [], _∷_, map, map-map}
+use mathlib.Core.List.{List, [], _∷_, map}
 use mathlib.Core.Option.{Option, none, some}
-use mathlib.Core.Path.{_≡_, refl, ap, ap₂, fun-ext, sym, _∙_}
+use mathlib.Core.Path.{_≡_, refl, ap, ap₂, fun-ext, _∙_}
 use Rattle.laws.specs.Bytes.{Bytes}
 use Rattle.tree.specs.Form.{Message, message}
 use Rattle.tree.specs.Pain008.{Document, declaration}

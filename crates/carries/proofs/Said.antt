@@ -2,7 +2,6 @@
 --   Stands s p y         the bytes y stand at the place p of s
 --   said-contents        element by element: the same part, the same judgement, and at its place the same text
 use Prim.Native.Nat.{ℕ, _+_}
-use native.Mathlib.Omega.{arith}
 use mathlib.Core.List.{List, [], _∷_, _++_, map, append-assoc, map-map, map-append, append-nil}
 use mathlib.Core.Path.{_≡_, refl, ap, ap₂, sym, _∙_}
 use lib.ListN.{length, take, drop, length-append}
@@ -12,7 +11,6 @@ use Rattle.tree.specs.declared.Kind.{Kind}
 use Rattle.tree.specs.declared.Event.{Event}
 use Rattle.tree.specs.Form.{Elem, Items, Tree, Kids, Message, message, declOf, event, part, kind, opening, closing, print, printKids, says, saysKids, Tree.tree, Kids.end, Kids.skip, Kids.take as take′}
 use Rattle.tree.specs.Pain008.{Document, declaration}
-use Rattle.message.specs.declared.Told.{Told}
 use Rattle.message.specs.Message.{told}
 use Rattle.checking.specs.Check.{saidBy}
 use Rattle.carries.specs.Contents.{Content, content, contents, kidContents, contentOf}

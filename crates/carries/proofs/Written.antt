@@ -5,7 +5,7 @@
 --   written-agrees         every count and sum that it declares is the exact one
 --   written-accepted       THE MESSAGE IS ACCEPTED
 --   written-carries        IT CARRIES ITS BATCHES, collection by collection
-use Prim.Native.Nat.{ℕ, suc, _+_, _*_, _^_, _≤_, _<_}
+use Prim.Native.Nat.{ℕ, suc, _+_, _≤_}
 use native.Mathlib.Omega.{arith}
 use mathlib.Core.List.{List, [], _∷_, _++_, map}
 use mathlib.Core.Option.{Option, none, some}
@@ -13,7 +13,7 @@ use mathlib.Core.Path.{_≡_, refl, ap, ap₂, sym, subst, _∙_}
 use lib.Dec.{T}
 use lib.ListN.{length, length-map, length-append}
 use Rattle.laws.specs.Bytes.{Bytes}
-use Rattle.laws.specs.Lists.{total, All, concat, gather}
+use Rattle.laws.specs.Lists.{All, concat, gather}
 use Rattle.laws.proofs.Counts.{All-append, All-map}
 use Rattle.profile.specs.Limits.{mostBytes, mostBatches, mostCollections}
 use Rattle.put.specs.Numerals.{decimal, euros, batchId}
@@ -27,7 +27,7 @@ use Rattle.tree.specs.Parts as part
 use Rattle.checking.specs.Check.{saidBy}
 use Rattle.checking.specs.Demand2.{AllAgree, InProfile}
 use Rattle.bundle.specs.Bundle.{number}
-use Rattle.listed.specs.Listed.{Terms, Collection, Creditor}
+use Rattle.listed.specs.Listed.{Collection, Creditor}
 use Rattle.listed.specs.Good.{emptyOr, GoodTerms, GoodCollection, GoodCreditor}
 use Rattle.written.specs.Written.{schemeWord, sequenceWord, termsOf, messageOf}
 use Rattle.written.proofs.Clean.{Clean}
@@ -36,7 +36,7 @@ use Rattle.written.proofs.Numerals.{count-good, sum-good, amount-good, batch-id
 use Rattle.written.proofs.Printed.{pieces-written}
 use Rattle.written.proofs.Lengths.{all-concat, cents-most, message-length}
 use Rattle.carries.specs.Carried.{carriedBy, Accepted}
-use Rattle.carries.specs.Contents.{Content, contents, parts, all, lastOr, the, collectionsIn, carriedOf, ProfileIn, Agreed, cents, BatchAgreed, AgreedIn}
+use Rattle.carries.specs.Contents.{Content, contents, all, lastOr, the, collectionsIn, carriedOf, ProfileIn, Agreed, cents, BatchAgreed, AgreedIn}
 use Rattle.carries.specs.Held.{txt, bankHeld, remittanceHeld, debtor, transactionHeld, scheme as schemeHeld, batchHeld, messageHeld}
 use Rattle.carries.proofs.Finds.{carried-contents}
 use Rattle.carries.proofs.Exact.{profile-contents, agree-contents}

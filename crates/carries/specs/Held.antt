@@ -15,7 +15,7 @@ use Rattle.text.specs.declared.Rule.the-variants.{Identifier, Name, Remittance,
 use Rattle.tree.specs.declared.Kind.the-variants.{Holds, Text}
 use Rattle.tree.specs.Parts as part
 use Rattle.bundle.specs.Bundle.{number}
-use Rattle.listed.specs.Listed.{Terms, Collection, Creditor}
+use Rattle.listed.specs.Listed.{Collection, Creditor}
 use Rattle.written.specs.Written.{schemeWord, sequenceWord, termsOf}
 use Rattle.carries.specs.Contents.{Content, content, cents}
 
