@@ -1,0 +1,1 @@
+// What a message carries: one collection for each transaction. There is no code here.
