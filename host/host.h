@@ -30,7 +30,8 @@ extern const size_t ELEMENTS_COUNT;
 
 /* ─── print.c ─── */
 
-/* Bytes in quotes; a byte that is not printable as \xNN, and at most 60 of them. */
+/* Bytes in quotes, at most SHOWN of them; a byte that is not printable as \xNN. */
+enum { SHOWN = 60 };
 void print_text(FILE *to, const uint8_t *text, size_t length);
 /* Cents as euros, "3250.15 EUR". */
 void print_euros(FILE *to, uint64_t cents);

@@ -103,7 +103,7 @@ static int may_stand(const uint8_t *message, size_t keep, const char *tag) {
 static void print_found(FILE *to, const uint8_t *message, size_t length, const struct spot *spot) {
     if (spot->tag == length) return;
     fputs("There stands: ", to);
-    print_text(to, message + spot->tag, length - spot->tag);
+    print_text(to, message + spot->tag, length - spot->tag < SHOWN ? length - spot->tag : SHOWN);
     fputs(".\n", to);
 }
 

@@ -2,8 +2,6 @@
 #include <inttypes.h>
 #include "host.h"
 
-enum { SHOWN = 60 };
-
 void print_text(FILE *to, const uint8_t *text, size_t length) {
     fputc('"', to);
     for (size_t i = 0; i < length && i < SHOWN; i++) {
@@ -12,7 +10,8 @@ void print_text(FILE *to, const uint8_t *text, size_t length) {
         else
             fputc(text[i], to);
     }
-    fputs(length > SHOWN ? "\" .." : "\"", to);
+    fputc('"', to);
+    if (length > SHOWN) fprintf(to, " .. (%zu bytes)", length);
 }
 
 void print_euros(FILE *to, uint64_t cents) { fprintf(to, "%" PRIu64 ".%02" PRIu64 " EUR", cents / 100, cents % 100); }
