@@ -95,11 +95,14 @@ static void print_figure(FILE *to, uint64_t n, int money) {
         fprintf(to, "%" PRIu64, n);
 }
 
-/* How far a declared figure is off; nothing where it is right. */
+/* What is missing or too many by the declared figure; nothing where it is right. */
 static void print_off(FILE *to, uint64_t declared, uint64_t exact, int money) {
-    if (declared == exact) return;
-    fprintf(to, ", too %s by ", declared > exact ? "high" : "low");
-    print_figure(to, declared > exact ? declared - exact : exact - declared, money);
+    uint64_t off = declared > exact ? declared - exact : exact - declared;
+    if (off == 0) return;
+    fputs(", by which ", to);
+    print_figure(to, off, money);
+    fputs(money || off == 1 ? " is " : " are ", to);
+    fputs(declared > exact ? "missing" : money ? "too much" : "too many", to);
 }
 
 static void print_declared(FILE *to, int declares, uint64_t declared, uint64_t exact, int money) {

@@ -48,9 +48,11 @@ extern "C" {
      5  A text breaks its rule, as a letter outside the set, a date that is no day, an IBAN with wrong check digits.
         Place: the start of the first such text. Mend: that text.
      6  The count that a batch declares differs from the number of its transactions.
-        Place: the start of that NbOfTxs. Mend: find the transactions that were lost or are too many, or correct the count.
+        Place: the start of that NbOfTxs. Mend: find the transactions that were lost or are too many; correct the count only where
+        it was declared wrong.
      7  The sum that a batch declares differs from the exact sum of its amounts.
-        Place: the start of that CtrlSum. Mend: find the amounts that were lost, changed or are too many, or correct the sum.
+        Place: the start of that CtrlSum. Mend: find the amounts that were lost, changed or are too many; correct the sum only
+        where it was declared wrong.
      8  The count that the header declares differs from the number of all transactions.
         Place: the start of the header's NbOfTxs. Mend: as for 6.
      9  The sum that the header declares differs from the exact sum of all amounts.
