@@ -209,6 +209,7 @@ static int read_request(int argc, char **argv, int writes, struct request *reque
         } else if (writes && strcmp(word, "-o") == 0) {
             if (request->output) return usage("-o stands twice", 0);
             if (++i == argc) return usage("-o needs a file behind it", 0);
+            if (strcmp(argv[i], "-") == 0) return usage("without -o the message goes to standard output; -o takes a file, not", argv[i]);
             request->output = argv[i];
         } else {
             return usage(writes ? "write has no option" : "check has no option", word);
