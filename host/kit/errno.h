@@ -1,0 +1,6 @@
+#ifndef KIT_ERRNO_H
+#define KIT_ERRNO_H
+int *__errno_location(void);
+#define errno (*__errno_location())
+#define EEXIST 17
+#endif

@@ -1,0 +1,2 @@
+#include <stdint.h>
+#define PRIu64 "lu"

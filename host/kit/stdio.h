@@ -1,0 +1,19 @@
+#ifndef KIT_STDIO_H
+#define KIT_STDIO_H
+#include <stddef.h>
+typedef struct kit_file FILE;
+extern FILE *stdin, *stdout, *stderr;
+FILE *fopen(const char *, const char *);
+FILE *fdopen(int, const char *);
+int fclose(FILE *);
+int fflush(FILE *);
+int ferror(FILE *);
+size_t fread(void *, size_t, size_t, FILE *);
+size_t fwrite(const void *, size_t, size_t, FILE *);
+int fputc(int, FILE *);
+int fputs(const char *, FILE *);
+int printf(const char *, ...) __attribute__((format(printf, 1, 2)));
+int fprintf(FILE *, const char *, ...) __attribute__((format(printf, 2, 3)));
+int snprintf(char *, size_t, const char *, ...) __attribute__((format(printf, 3, 4)));
+int rename(const char *, const char *);
+#endif

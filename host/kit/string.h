@@ -1,0 +1,11 @@
+#ifndef KIT_STRING_H
+#define KIT_STRING_H
+#include <stddef.h>
+void *memchr(const void *, int, size_t);
+int memcmp(const void *, const void *, size_t);
+void *memcpy(void *, const void *, size_t);
+void *memset(void *, int, size_t);
+int strcmp(const char *, const char *);
+char *strerror(int);
+size_t strlen(const char *);
+#endif

@@ -1,0 +1,10 @@
+#ifndef KIT_SYS_STAT_H
+#define KIT_SYS_STAT_H
+struct stat {
+    unsigned long before[3];
+    unsigned st_mode;
+    unsigned char behind[116];
+};
+#define S_ISREG(mode) (((mode)&0170000) == 0100000)
+int lstat(const char *, struct stat *);
+#endif

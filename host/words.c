@@ -1,0 +1,113 @@
+/* The words: what each number means and what to mend, the rules of texts, and which element has which rule. */
+#include <string.h>
+#include "host.h"
+
+static const struct words WORDS[] = {
+    {1, "The message is longer than 1,048,576 bytes.", "Split the run into several messages."},
+    {2, "The message is not of the profile's form.", "Correct what stands at the place, or add what is missing there."},
+    {3, "The message has more than 64 batches.", "Split the run into several messages."},
+    {4, "The message has more than 2,000 transactions.", "Split the run into several messages."},
+    {5, "A text breaks its rule.", "Correct that text."},
+    {6, "The count that a batch declares differs from the number of its transactions.",
+     "Find the transactions that were lost or are too many; correct the count only where it was declared wrong."},
+    {7, "The sum that a batch declares differs from the exact sum of its amounts.",
+     "Find the amounts that were lost, changed or are too many; correct the sum only where it was declared wrong."},
+    {8, "The count that the header declares differs from the number of all transactions.",
+     "Find the transactions that were lost or are too many; correct the count only where it was declared wrong."},
+    {9, "The sum that the header declares differs from the exact sum of all amounts.",
+     "Find the amounts that were lost, changed or are too many; correct the sum only where it was declared wrong."},
+    {10, "The slip table is too short.", "Lend a table of as many numbers as the place says."},
+    {11, "The batch table is too short.", "Lend a table of as many numbers as the place says."},
+    {21, "The list is longer than 1,048,576 bytes.", "Split the list."},
+    {22, "The ceiling is not 1 to 500.", "Give a ceiling of 1 to 500 collections a batch."},
+    {23, "A line is not a frame of its kind, or lacks its LF.", "Correct that line."},
+    {24, "The list has no creditor line, or no collection.", "Complete the list: the creditor on line 1, a collection on each further line."},
+    {25, "The list has more than 1,000 collections.", "Split the list."},
+    {26, "A value breaks its rule.", "Correct that value."},
+    {27, "More than 64 batches are needed: no message carries these collections with no batch above the ceiling.", "Raise the ceiling, or split the list."},
+    {28, "The output is too short.", "Lend an output of as many bytes as the place says."},
+};
+
+const struct words *words_of(uint64_t number) {
+    static const struct words unknown = {0, "This number is not known to the command.", "Use a command and a library of the same version."};
+    for (size_t i = 0; i < sizeof WORDS / sizeof *WORDS; i++)
+        if (WORDS[i].number == number) return &WORDS[i];
+    return &unknown;
+}
+
+#define LETTERS "of a-z A-Z 0-9 / - ? : ( ) . , ' + and space"
+
+const char *const RULE[RULES] = {
+    [HOLDER] = "holds elements, no text",
+    [IDENTIFIER] = "1 to 35 characters " LETTERS "; no / at either end, no // inside",
+    [NAME] = "1 to 70 characters " LETTERS,
+    [REMITTANCE] = "1 to 140 characters " LETTERS,
+    [COUNT] = "1 to 15 digits",
+    [SUM] = "1 to 15 digits, then optionally a point and 1 or 2 digits",
+    [AMOUNT] = "1 to 9 digits, then optionally a point and 1 or 2 digits; 0.01 to 999999999.99",
+    [DATE] = "a real day as YYYY-MM-DD, years 1900 to 2099",
+    [TIME] = "a real day, T and a time as YYYY-MM-DDThh:mm:ss, years 1900 to 2099",
+    [IBAN] = "two capitals, two digits, 1 to 30 letters or digits, the check digits being right",
+    [BIC] = "four capitals or digits, two capitals, two capitals or digits, optionally three more; not NOTPROVIDED",
+    [CREDITOR] = "two capitals, two digits, three capitals or digits, then 1 to 28 capitals or digits",
+    [METHOD] = "DD",
+    [BOOKING] = "true or false",
+    [SEPA] = "SEPA",
+    [SCHEME] = "CORE or B2B",
+    [SEQUENCE] = "FRST, RCUR, OOFF or FNAL",
+    [CHARGES] = "SLEV",
+    [NOBANK] = "NOTPROVIDED",
+};
+
+const struct element ELEMENTS[] = {
+    {"Document", 0, HOLDER},
+    {"CstmrDrctDbtInitn", 0, HOLDER},
+    {"GrpHdr", 0, HOLDER},
+    {"MsgId", 0, IDENTIFIER},
+    {"CreDtTm", 0, TIME},
+    {"NbOfTxs", 0, COUNT},
+    {"CtrlSum", 0, SUM},
+    {"InitgPty", 0, HOLDER},
+    {"Nm", 0, NAME},
+    {"PmtInf", 0, HOLDER},
+    {"PmtInfId", 0, IDENTIFIER},
+    {"PmtMtd", 0, METHOD},
+    {"BtchBookg", 0, BOOKING},
+    {"PmtTpInf", 0, HOLDER},
+    {"SvcLvl", 0, HOLDER},
+    {"LclInstrm", 0, HOLDER},
+    {"Cd", "SvcLvl", SEPA},
+    {"Cd", "LclInstrm", SCHEME},
+    {"SeqTp", 0, SEQUENCE},
+    {"ReqdColltnDt", 0, DATE},
+    {"Cdtr", 0, HOLDER},
+    {"CdtrAcct", 0, HOLDER},
+    {"IBAN", 0, IBAN},
+    {"CdtrAgt", 0, HOLDER},
+    {"FinInstnId", 0, HOLDER},
+    {"BICFI", 0, BIC},
+    {"Othr", 0, HOLDER},
+    {"ChrgBr", 0, CHARGES},
+    {"CdtrSchmeId", 0, HOLDER},
+    {"PrvtId", 0, HOLDER},
+    {"Id", "PrvtId", CREDITOR},
+    {"Id", "FinInstnId", NOBANK},
+    {"Id", 0, HOLDER},
+    {"SchmeNm", 0, HOLDER},
+    {"Prtry", 0, SEPA},
+    {"DrctDbtTxInf", 0, HOLDER},
+    {"PmtId", 0, HOLDER},
+    {"InstrId", 0, IDENTIFIER},
+    {"EndToEndId", 0, IDENTIFIER},
+    {"InstdAmt", 0, AMOUNT},
+    {"DrctDbtTx", 0, HOLDER},
+    {"MndtRltdInf", 0, HOLDER},
+    {"MndtId", 0, IDENTIFIER},
+    {"DtOfSgntr", 0, DATE},
+    {"DbtrAgt", 0, HOLDER},
+    {"Dbtr", 0, HOLDER},
+    {"DbtrAcct", 0, HOLDER},
+    {"RmtInf", 0, HOLDER},
+    {"Ustrd", 0, REMITTANCE},
+};
+const size_t ELEMENTS_COUNT = sizeof ELEMENTS / sizeof *ELEMENTS;
