@@ -4,6 +4,7 @@ mod answer;
 mod automaton;
 mod bundle;
 mod byte_faults;
+mod calls;
 mod cases;
 mod check;
 mod content;
@@ -11,6 +12,7 @@ mod daylist;
 mod draft;
 mod edges;
 mod frames;
+mod limit_cases;
 mod list_cases;
 mod list_draft;
 mod list_faults;
@@ -45,6 +47,7 @@ const USAGE: &str = "usage:
   second cases check SEED COUNT DIR [--max BYTES] [--tables]
   second cases write SEED COUNT DIR [--room]
   second reach check|write DIR
+  second calls SEED COUNT
   second selftest";
 
 fn main() -> ExitCode {
@@ -78,6 +81,11 @@ fn run(words: &[&str]) -> Result<ExitCode, Fault> {
         }
         ["reach", "check", directory] => print(&reach(Path::new(directory), 1..=11)?)?,
         ["reach", "write", directory] => print(&reach(Path::new(directory), 21..=28)?)?,
+        ["calls", seed, count] => {
+            let mut out = io::BufWriter::new(io::stdout().lock());
+            calls::calls(number(seed)?, number(count)?, &mut out)?;
+            out.flush()?;
+        }
         ["selftest"] if !selftest::run() => return Ok(ExitCode::FAILURE),
         ["selftest"] => {}
         _ => return Err(USAGE.into()),
