@@ -298,7 +298,8 @@ fn carried(message: &str) -> (Vec<Collection>, usize) {
     (collections, greatest)
 }
 
-/// Each written message is accepted and carries the listed collections within the ceiling.
+/// Each written message is accepted, with the list's totals, and carries the listed collections
+/// within the ceiling.
 fn round_trips(bench: &mut Bench) {
     let checker = Checker::new();
     let wrong = (0..400).find(|&case| {
@@ -307,16 +308,17 @@ fn round_trips(bench: &mut Bench) {
             Ok(message) => message,
             Err(refusal) => return refusal.number != 27,
         };
-        let mut listed = DayList::read(&bytes)
-            .map(|list| list.collections)
-            .unwrap_or_default();
+        let list = DayList::read(&bytes);
+        let mut listed = list.map(|list| list.collections).unwrap_or_default();
+        let cents = listed.iter().map(|collection| collection.cents).sum();
+        let due = (listed.len() as u64, cents);
         let (mut collections, greatest) = carried(&message);
         listed.sort();
         collections.sort();
-        let accepted = checker
+        let totals = checker
             .check(message.as_bytes(), Tables::LONG_ENOUGH)
-            .is_ok();
-        !accepted || greatest > ceiling as usize || listed != collections
+            .map(|accepted| (accepted.transactions, accepted.cents));
+        totals != Ok(due) || greatest > ceiling as usize || listed != collections
     });
     bench.same("round trips", wrong, None);
 }
