@@ -4,6 +4,7 @@
 use crate::check::{printed, Accepted, Checker, Tables};
 use crate::list_cases::list;
 use crate::message_cases::message;
+use crate::profile::{PROGRAM_LIMIT, TOO_LONG};
 use crate::random::Random;
 use crate::writer::write;
 use std::collections::BTreeMap;
@@ -38,9 +39,25 @@ pub fn check_cases(order: &Order, most: usize, own_tables: bool) -> io::Result<(
     Ok(())
 }
 
-/// Writes lists, ceilings and the messages or refusals for them; with `own_room`, each case has an
-/// output of its own length.
-pub fn write_cases(order: &Order, own_room: bool) -> io::Result<()> {
+/// Which lists and messages the writing program's arrays hold.
+#[derive(Clone, Copy)]
+pub struct Arrays {
+    pub list: usize,
+    pub message: usize,
+}
+
+impl Arrays {
+    pub const LONG_ENOUGH: Arrays = Arrays {
+        list: usize::MAX,
+        message: usize::MAX,
+    };
+}
+
+/// Writes lists, ceilings and what the writing program prints for them; with `own_room`, each case
+/// has an output of its own length. A written message that the checking program reads comes with
+/// what that prints for it.
+pub fn write_cases(order: &Order, own_room: bool, arrays: Arrays) -> io::Result<()> {
+    let checker = Checker::new();
     fs::create_dir_all(order.directory)?;
     for case in 0..order.count {
         let (bytes, ceiling) = list(order.seed, case);
@@ -51,10 +68,19 @@ pub fn write_cases(order: &Order, own_room: bool) -> io::Result<()> {
             answer = write(&bytes, ceiling, room);
             order.put(case, "room", room.to_string().as_bytes())?;
         }
-        let out = answer.unwrap_or_else(|refusal| format!("{refusal}\n"));
+        let out = match answer {
+            _ if bytes.len() > arrays.list => TOO_LONG.to_string(),
+            Ok(message) if message.len() > arrays.message => TOO_LONG.to_string(),
+            Ok(message) => message,
+            Err(refusal) => format!("{refusal}\n"),
+        };
         order.put(case, "in", &bytes)?;
         order.put(case, "ceiling", ceiling.to_string().as_bytes())?;
         order.put(case, "out", out.as_bytes())?;
+        if outcome(out.as_bytes()) == "OK" && out.len() <= PROGRAM_LIMIT {
+            let checked = checker.check(out.as_bytes(), Tables::LONG_ENOUGH);
+            order.put(case, "checked", printed(&checked).as_bytes())?;
+        }
     }
     Ok(())
 }

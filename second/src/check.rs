@@ -65,7 +65,7 @@ impl Checker {
         let accepted = accepted(&message);
         batch_totals(&message, &accepted)?;
         message_totals(&message, &accepted)?;
-        room(&accepted, tables)?;
+        accepted.fits(tables)?;
         Ok(accepted)
     }
 }
@@ -118,17 +118,26 @@ fn compare(
     }
 }
 
-/// Stages 10 and 11.
-fn room(accepted: &Accepted, tables: Tables) -> Result<(), Refusal> {
-    let slips_needed = SLIP_NUMBERS * accepted.slip_rows.len();
-    let batches_needed = BATCH_NUMBERS * accepted.batches.len();
-    if slips_needed > tables.slips {
-        return refuse(10, slips_needed);
+impl Accepted {
+    /// Stages 10 and 11.
+    pub fn fits(&self, tables: Tables) -> Result<(), Refusal> {
+        let needed = self.tables();
+        if needed.slips > tables.slips {
+            return refuse(10, needed.slips);
+        }
+        if needed.batches > tables.batches {
+            return refuse(11, needed.batches);
+        }
+        Ok(())
     }
-    if batches_needed > tables.batches {
-        return refuse(11, batches_needed);
+
+    /// The numbers needed in each table.
+    pub fn tables(&self) -> Tables {
+        Tables {
+            slips: SLIP_NUMBERS * self.slip_rows.len(),
+            batches: BATCH_NUMBERS * self.batches.len(),
+        }
     }
-    Ok(())
 }
 
 /// All that is answered, should no later stage refuse: every text meets its rule.

@@ -76,11 +76,7 @@ fn about_the_batches(random: &mut Random) -> (Vec<u8>, u64) {
     let different = random.pick(&[1, 2, 5, batches]);
     let terms = different_terms(different, random);
     let mut draft = draft(batches, &terms, Size::Least, random);
-    for (index, collection) in draft.collections.iter_mut().enumerate() {
-        let (scheme, sequence, date) = terms[index % different].clone();
-        (collection.scheme, collection.sequence) = (scheme, sequence);
-        collection.texts[0] = date;
-    }
+    draft.give_terms(terms.iter().cycle().cloned());
     let copies = random.within(1..=ceiling as usize);
     draft.collections = vec![draft.collections; copies].concat();
     if random.once_in(4) {

@@ -25,9 +25,18 @@ impl Draft {
     pub fn list(&self) -> Vec<u8> {
         frames::list(&self.creditor, &self.collections)
     }
+
+    /// Gives the collections these terms, one after the other.
+    pub fn give_terms(&mut self, terms: impl Iterator<Item = Terms>) {
+        for (collection, (scheme, sequence, date)) in self.collections.iter_mut().zip(terms) {
+            (collection.scheme, collection.sequence) = (scheme, sequence);
+            collection.texts[0] = date;
+        }
+    }
 }
 
-type Terms = (u8, u8, Vec<u8>);
+/// Scheme, sequence and collection date.
+pub type Terms = (u8, u8, Vec<u8>);
 
 pub fn draft(count: usize, terms: &[Terms], size: Size, random: &mut Random) -> Draft {
     let creditor = creditor(size, random);

@@ -4,6 +4,7 @@ mod answer;
 mod automaton;
 mod bundle;
 mod byte_faults;
+mod calls;
 mod cases;
 mod check;
 mod content;
@@ -11,6 +12,7 @@ mod daylist;
 mod draft;
 mod edges;
 mod frames;
+mod limit_cases;
 mod list_cases;
 mod list_draft;
 mod list_faults;
@@ -33,7 +35,7 @@ mod tree_faults;
 mod vectors;
 mod writer;
 
-use cases::{check_cases, reach, write_cases, Order};
+use cases::{check_cases, reach, write_cases, Arrays, Order};
 use check::{printed, printed_rows, Checker, Tables};
 use std::io::{self, Read, Write};
 use std::path::Path;
@@ -43,8 +45,9 @@ const USAGE: &str = "usage:
   second check [--limit] [--tables SLIPS BATCHES] [--rows] < MESSAGE
   second write CEILING [--room BYTES] < LIST
   second cases check SEED COUNT DIR [--max BYTES] [--tables]
-  second cases write SEED COUNT DIR [--room]
+  second cases write SEED COUNT DIR [--room | --arrays LIST MESSAGE]
   second reach check|write DIR
+  second calls SEED COUNT
   second selftest";
 
 fn main() -> ExitCode {
@@ -70,14 +73,25 @@ fn run(words: &[&str]) -> Result<ExitCode, Fault> {
             let order = order(seed, count, directory)?;
             check_cases(&order, options.most, options.own_tables)?;
         }
-        ["cases", "write", seed, count, directory] => {
-            write_cases(&order(seed, count, directory)?, false)?
-        }
-        ["cases", "write", seed, count, directory, "--room"] => {
-            write_cases(&order(seed, count, directory)?, true)?
+        ["cases", "write", seed, count, directory, options @ ..] => {
+            let order = order(seed, count, directory)?;
+            match options {
+                [] => write_cases(&order, false, Arrays::LONG_ENOUGH)?,
+                ["--room"] => write_cases(&order, true, Arrays::LONG_ENOUGH)?,
+                ["--arrays", list, message] => {
+                    let (list, message) = (length(list)?, length(message)?);
+                    write_cases(&order, false, Arrays { list, message })?
+                }
+                _ => return Err(USAGE.into()),
+            }
         }
         ["reach", "check", directory] => print(&reach(Path::new(directory), 1..=11)?)?,
         ["reach", "write", directory] => print(&reach(Path::new(directory), 21..=28)?)?,
+        ["calls", seed, count] => {
+            let mut out = io::BufWriter::new(io::stdout().lock());
+            calls::calls(number(seed)?, number(count)?, &mut out)?;
+            out.flush()?;
+        }
         ["selftest"] if !selftest::run() => return Ok(ExitCode::FAILURE),
         ["selftest"] => {}
         _ => return Err(USAGE.into()),
@@ -147,7 +161,7 @@ fn check_options(words: &[&str]) -> Result<CheckOptions, Fault> {
 fn check_input(options: &CheckOptions) -> io::Result<()> {
     let bytes = input()?;
     if options.limit && bytes.len() > profile::PROGRAM_LIMIT {
-        return print("TOO LONG\n");
+        return print(profile::TOO_LONG);
     }
     let answer = Checker::new().check(&bytes, options.tables);
     print(&printed(&answer))?;

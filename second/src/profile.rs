@@ -10,6 +10,9 @@ pub const CEILING_LIMIT: u64 = 500;
 pub const CENTS_LIMIT: u64 = 99_999_999_999;
 pub const PROGRAM_LIMIT: usize = 65_536;
 
+/// What a program prints where its arrays are too short.
+pub const TOO_LONG: &str = "TOO LONG\n";
+
 pub const DECLARATION: &str = r#"<?xml version="1.0" encoding="UTF-8"?>"#;
 pub const DOCUMENT: &str = r#"<Document xmlns="urn:iso:std:iso:20022:tech:xsd:pain.008.001.08">"#;
 pub const WHITE_SPACE: &[u8] = b" \t\r\n";

@@ -1,6 +1,8 @@
-//! Tests of the generated cases: good ones are accepted, each outcome is reached, lengths are kept.
+//! Tests of the generated cases: good ones are accepted, each outcome is reached, lengths are kept,
+//! those at the limits have their outcomes.
 
 use crate::check::{Checker, Tables};
+use crate::limit_cases::{LISTS, MESSAGES};
 use crate::list_cases::list;
 use crate::message_cases::{good_message, message};
 use crate::random::Random;
@@ -21,6 +23,29 @@ pub fn run(bench: &mut Bench) {
     bench.same("lists", numbers_of_lists(1500), due);
     let short = (0..200).all(|case| message(5, case, 900).len() <= 900);
     bench.holds("short messages", short);
+    at_the_limits(bench);
+}
+
+fn at_the_limits(bench: &mut Bench) {
+    let checker = Checker::new();
+    let random = &mut Random::new(4, 0);
+    let messages = MESSAGES.iter().map(|make| {
+        let answer = checker.check(&make(random), Tables::LONG_ENOUGH);
+        answer.map_or_else(|refusal| refusal.number, |_| 0)
+    });
+    let due = [
+        2, 0, 0, 0, 1, 2, 2, 1, 0, 3, 0, 4, 4, 0, 3, 0, 0, 2, 5, 6, 7, 8, 9,
+    ];
+    bench.same("messages at the limits", messages.collect::<Vec<_>>(), due);
+    let lists = LISTS.iter().map(|make| {
+        let (list, ceiling) = make(random);
+        let answer = write(&list, ceiling, usize::MAX);
+        answer.map_or_else(|refusal| refusal.number, |_| 0)
+    });
+    let due = [
+        24, 24, 0, 22, 0, 22, 22, 22, 0, 27, 27, 0, 25, 0, 23, 23, 23, 21, 21, 21,
+    ];
+    bench.same("lists at the limits", lists.collect::<Vec<_>>(), due);
 }
 
 /// The refusals' numbers, and 0 for success.

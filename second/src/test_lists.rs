@@ -2,14 +2,14 @@
 
 use crate::check::{Checker, Tables};
 use crate::content::Message;
-use crate::daylist::{Collection, Creditor, DayList};
+use crate::daylist::{Collection, DayList};
 use crate::frames::list;
+use crate::limit_cases::longest;
 use crate::list_cases::good_list;
 use crate::profile::{CENTS_LIMIT, MESSAGE_LIMIT, NOT_PROVIDED, SCHEMES, SEQUENCES};
 use crate::random::Random;
 use crate::rules::amount;
 use crate::selftest::Bench;
-use crate::test_texts::remainder_one;
 use crate::vectors::{LIST, MESSAGE};
 use crate::writer::write;
 
@@ -21,7 +21,7 @@ pub fn run(bench: &mut Bench) {
     values(bench);
     batches(bench);
     room(bench);
-    longest(bench);
+    longest_message(bench);
     round_trips(bench);
 }
 
@@ -244,53 +244,11 @@ fn room(bench: &mut Bench) {
     bench.same("27 before 28", printed, Err("NO 27 65".to_string()));
 }
 
-/// 64 terms: three of 101 collections, the others of 11 and the rest in one of them.
-fn longest_collections() -> Vec<Collection> {
-    let iban = remainder_one("GB", &"A".repeat(30));
-    let texts = |date: String| {
-        let [id, name, remittance] = [35, 70, 140].map(|length| "A".repeat(length));
-        let (signature, bic) = ("2009-09-01".to_string(), String::new());
-        let (other_id, iban) = (id.clone(), iban.clone());
-        [date, id, other_id, signature, bic, name, iban, remittance].map(String::into_bytes)
-    };
-    let mut collections = Vec::new();
-    for terms in 0..64 {
-        let count = match terms {
-            0..=2 => 101,
-            3 => 11 + 26,
-            _ => 11,
-        };
-        let collection = Collection {
-            scheme: 0,
-            sequence: terms % 4,
-            cents: CENTS_LIMIT,
-            texts: texts(format!("2026-11-{:02}", 1 + terms / 4)),
-        };
-        collections.extend(vec![collection; count]);
-    }
-    collections
-}
-
-fn longest(bench: &mut Bench) {
-    let collections = longest_collections();
-    let creditor = Creditor {
-        texts: [
-            vec![b'A'; 35],
-            b"2026-11-02T09:30:00".to_vec(),
-            vec![b'A'; 70],
-            vec![b'A'; 70],
-            collections[0].texts[6].clone(),
-            Vec::new(),
-            [&b"BE69"[..], &[b'A'; 31]].concat(),
-        ],
-    };
-    let bytes = list(&creditor, &collections);
-    bench.same(
-        "collections of the longest message",
-        collections.len(),
-        1000,
-    );
-    bench.same("its list", bytes.len(), 701_543);
+fn longest_message(bench: &mut Bench) {
+    let bytes = longest(&mut Random::new(4, 1));
+    let lines = bytes.split_inclusive(|&byte| byte == b'\n').count();
+    bench.same("lines of the longest message's list", lines, 1001);
+    bench.same("its length", bytes.len(), 701_543);
     let message = answer(&bytes, 500);
     bench.same("the longest message", message.len(), 745_349);
     let accepted = Checker::new().check(message.as_bytes(), Tables::LONG_ENOUGH);
@@ -340,7 +298,8 @@ fn carried(message: &str) -> (Vec<Collection>, usize) {
     (collections, greatest)
 }
 
-/// Each written message is accepted and carries the listed collections within the ceiling.
+/// Each written message is accepted, with the list's totals, and carries the listed collections
+/// within the ceiling.
 fn round_trips(bench: &mut Bench) {
     let checker = Checker::new();
     let wrong = (0..400).find(|&case| {
@@ -349,16 +308,17 @@ fn round_trips(bench: &mut Bench) {
             Ok(message) => message,
             Err(refusal) => return refusal.number != 27,
         };
-        let mut listed = DayList::read(&bytes)
-            .map(|list| list.collections)
-            .unwrap_or_default();
+        let list = DayList::read(&bytes);
+        let mut listed = list.map(|list| list.collections).unwrap_or_default();
+        let cents = listed.iter().map(|collection| collection.cents).sum();
+        let due = (listed.len() as u64, cents);
         let (mut collections, greatest) = carried(&message);
         listed.sort();
         collections.sort();
-        let accepted = checker
+        let totals = checker
             .check(message.as_bytes(), Tables::LONG_ENOUGH)
-            .is_ok();
-        !accepted || greatest > ceiling as usize || listed != collections
+            .map(|accepted| (accepted.transactions, accepted.cents));
+        totals != Ok(due) || greatest > ceiling as usize || listed != collections
     });
     bench.same("round trips", wrong, None);
 }

@@ -254,7 +254,7 @@ fn identifications(bench: &mut Bench) {
 }
 
 /// An IBAN with the check digits that make it leave 1.
-pub fn remainder_one(country: &str, account: &str) -> String {
+fn remainder_one(country: &str, account: &str) -> String {
     let digits = (2..=98).map(|digits| format!("{country}{digits:02}{account}"));
     let mut right = digits.filter(|text| remainder_by_97(text.as_bytes()) == 1);
     right.next().unwrap()

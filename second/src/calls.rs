@@ -1,0 +1,224 @@
+//! Calls of the library for tests/driver.c: inputs with the lengths of the buffers that are lent,
+//! and all that must come of each call, as one stream. A number has eight bytes, low first; a row
+//! of numbers or bytes comes after how many there are:
+//!
+//! - `I`, bytes: the input of the calls that follow;
+//! - `C`, the lengths of slip and batch table, the answer (number, place, batches, transactions,
+//!   cents), the numbers that go into the slip table, those that go into the batch table: a check;
+//! - `W`, the ceiling, the length of the output, the answer (number, place), the bytes that go into
+//!   the output: a write;
+//! - `E`: the end.
+
+use crate::answer::Refusal;
+use crate::check::{Accepted, Checker, Tables};
+use crate::limit_cases::{LISTS, MESSAGES};
+use crate::list_cases::list;
+use crate::message_cases::message;
+use crate::profile::{CEILING_LIMIT, MESSAGE_LIMIT, PROGRAM_LIMIT};
+use crate::random::Random;
+use crate::writer::write;
+use std::io;
+
+/// Lengths far above what is needed: of a table in numbers, of an output in bytes.
+const FAR_TABLE: usize = 30_000;
+const FAR_OUTPUT: usize = MESSAGE_LIMIT + 100_000;
+
+/// An input that is not refused is called with so many lengths; one at the limits with all.
+const LENGTHS: usize = 3;
+
+/// Writes so many calls of a seed.
+pub fn calls(seed: u64, count: u64, out: &mut dyn io::Write) -> io::Result<()> {
+    let mut calls = Calls {
+        checker: Checker::new(),
+        random: Random::new(!seed, u64::MAX),
+        left: count,
+        out,
+    };
+    let mut case = 0;
+    while calls.left > 0 {
+        calls.of_a_case(seed, case)?;
+        case += 1;
+    }
+    calls.out.write_all(b"E")
+}
+
+struct Calls<'a> {
+    checker: Checker,
+    random: Random,
+    left: u64,
+    out: &'a mut dyn io::Write,
+}
+
+impl Calls<'_> {
+    /// A message and a list; every tenth case has two at the limits beside them, as long as there
+    /// are any, and every eighth message may have any length.
+    fn of_a_case(&mut self, seed: u64, case: u64) -> io::Result<()> {
+        if case % 10 == 0 {
+            self.at_the_limits(case as usize / 10)?;
+        }
+        let most = match case % 8 {
+            0 => MESSAGE_LIMIT + 50_000,
+            _ => PROGRAM_LIMIT,
+        };
+        self.checks(&message(seed, case, most), LENGTHS)?;
+        let (list, ceiling) = list(seed, case);
+        self.writes(&list, &[ceiling], LENGTHS)
+    }
+
+    fn at_the_limits(&mut self, index: usize) -> io::Result<()> {
+        if let Some(make) = MESSAGES.get(index) {
+            let message = make(&mut self.random);
+            self.checks(&message, usize::MAX)?;
+        }
+        if let Some(make) = LISTS.get(index) {
+            let (list, ceiling) = make(&mut self.random);
+            let ceilings = [0, 1, 2, CEILING_LIMIT, CEILING_LIMIT + 1, u64::MAX];
+            let other = self.random.pick(&ceilings);
+            self.writes(&list, &[ceiling, other], usize::MAX)?;
+        }
+        Ok(())
+    }
+
+    /// Checks of a message, with at most so many lengths of the tables.
+    fn checks(&mut self, message: &[u8], most: usize) -> io::Result<()> {
+        self.input(message)?;
+        match self.checker.check(message, Tables::LONG_ENOUGH) {
+            Ok(accepted) => {
+                let tables = lengths_of_tables(accepted.tables());
+                let mut tables = self.some(tables, most).into_iter();
+                tables.try_for_each(|tables| self.accepted(&accepted, tables))
+            }
+            Err(refusal) => {
+                let slips = self.random.pick(&[0, 11, 12, 120, 24_000, FAR_TABLE]);
+                let batches = self.random.pick(&[0, 7, 8, 512, FAR_TABLE]);
+                self.refused(refusal, Tables { slips, batches })
+            }
+        }
+    }
+
+    /// The check of a message that nothing but its tables refuses.
+    fn accepted(&mut self, accepted: &Accepted, tables: Tables) -> io::Result<()> {
+        if let Err(refusal) = accepted.fits(tables) {
+            return self.refused(refusal, tables);
+        }
+        let batches = accepted.batches.len() as u64;
+        let answer = [0, 0, batches, accepted.transactions, accepted.cents];
+        let rows: Vec<_> = accepted.batches.iter().map(|batch| batch.row()).collect();
+        self.check(tables, answer, &accepted.slip_rows.concat(), &rows.concat())
+    }
+
+    fn refused(&mut self, refusal: Refusal, tables: Tables) -> io::Result<()> {
+        let answer = [u64::from(refusal.number), refusal.place as u64, 0, 0, 0];
+        self.check(tables, answer, &[], &[])
+    }
+
+    fn check(
+        &mut self,
+        tables: Tables,
+        answer: [u64; 5],
+        slips: &[u64],
+        batches: &[u64],
+    ) -> io::Result<()> {
+        let record = Record::of(b'C')
+            .numbers(&[tables.slips as u64, tables.batches as u64])
+            .numbers(&answer)
+            .numbers(&[slips.len() as u64])
+            .numbers(slips)
+            .numbers(&[batches.len() as u64])
+            .numbers(batches);
+        self.call(record)
+    }
+
+    /// Writes for a list, at each ceiling with at most so many lengths of the output.
+    fn writes(&mut self, list: &[u8], ceilings: &[u64], most: usize) -> io::Result<()> {
+        self.input(list)?;
+        for &ceiling in ceilings {
+            let lengths = match write(list, ceiling, usize::MAX) {
+                Ok(message) => lengths_of_output(message.len()),
+                Err(_) => vec![self.random.pick(&[0, 1, 2_000, FAR_OUTPUT])],
+            };
+            for length in self.some(lengths, most) {
+                self.write(list, ceiling, length)?;
+            }
+        }
+        Ok(())
+    }
+
+    fn write(&mut self, list: &[u8], ceiling: u64, length: usize) -> io::Result<()> {
+        let (number, place, message) = match write(list, ceiling, length) {
+            Ok(message) => (0, message.len(), message),
+            Err(refusal) => (u64::from(refusal.number), refusal.place, String::new()),
+        };
+        let record = Record::of(b'W')
+            .numbers(&[ceiling, length as u64, number, place as u64])
+            .numbers(&[message.len() as u64])
+            .bytes(message.as_bytes());
+        self.call(record)
+    }
+
+    /// At most so many of these.
+    fn some<T>(&mut self, mut all: Vec<T>, most: usize) -> Vec<T> {
+        while all.len() > most {
+            all.swap_remove(self.random.below(all.len()));
+        }
+        all
+    }
+
+    fn input(&mut self, bytes: &[u8]) -> io::Result<()> {
+        let record = Record::of(b'I').numbers(&[bytes.len() as u64]).bytes(bytes);
+        self.out.write_all(&record.0)
+    }
+
+    fn call(&mut self, record: Record) -> io::Result<()> {
+        if self.left == 0 {
+            return Ok(());
+        }
+        self.left -= 1;
+        self.out.write_all(&record.0)
+    }
+}
+
+/// Tables exactly long enough, one too short, empty, one longer and far too long.
+fn lengths_of_tables(needed: Tables) -> Vec<Tables> {
+    let (s, b) = (needed.slips, needed.batches);
+    let lengths = [
+        (s, b),
+        (s, b),
+        (s + 1, b + 1),
+        (FAR_TABLE, FAR_TABLE),
+        (s - 1, b),
+        (s, b - 1),
+        (s - 1, b - 1),
+        (0, FAR_TABLE),
+        (FAR_TABLE, 0),
+        (0, 0),
+    ];
+    lengths
+        .map(|(slips, batches)| Tables { slips, batches })
+        .into()
+}
+
+/// An output exactly long enough, one too short, empty, one longer and far too long.
+fn lengths_of_output(needed: usize) -> Vec<usize> {
+    vec![needed, needed, needed + 1, FAR_OUTPUT, needed - 1, 0]
+}
+
+/// One part of the stream.
+struct Record(Vec<u8>);
+
+impl Record {
+    fn of(kind: u8) -> Record {
+        Record(vec![kind])
+    }
+
+    fn numbers(mut self, numbers: &[u64]) -> Record {
+        self.0
+            .extend(numbers.iter().flat_map(|number| number.to_le_bytes()));
+        self
+    }
+
+    fn bytes(mut self, bytes: &[u8]) -> Record {
+        self.0.extend(bytes);
+        self
+    }
+}

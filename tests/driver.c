@@ -1,0 +1,286 @@
+/* The library beside the second program: `second calls SEED COUNT | driver FILE`.
+
+   Each call comes with all that must come of it; second/src/calls.rs has the format. The library is lent buffers that lie between
+   margins of a known pattern. Compared are the answer, every number and byte that was to be written, and that nothing else changed:
+   the margins, the rest of the tables and of the output, the input. Then one thing of the result is spoiled on purpose, and the
+   comparison must see it.
+
+   Prints the figures. The input of the first disagreement is kept in FILE. Exit status 0: no disagreement, no spoiled result unseen,
+   every number reached; 1: otherwise; 2: the calls cannot be read.
+
+   NO_WRITE: the library has no desk_write, and its calls are left out. */
+#include "desk.h"
+#include <stdint.h>
+#include <stdio.h>
+#include <stdlib.h>
+#include <string.h>
+
+enum { MARGIN = 1024, ALIGNMENTS = 16, SHIFTS = 251, MOST_BYTES = 1 << 24, MOST_SHOWN = 10 };
+
+#ifdef NO_WRITE
+enum { LIBRARY_WRITES = 0 };
+#define desk_write(list, list_len, ceiling, out, out_len) ((void)(list), (void)(ceiling), (void)(out), (struct desk_written){0, 0})
+#else
+enum { LIBRARY_WRITES = 1 };
+#endif
+
+/* ---- Reading the calls */
+
+static void fail(const char *what) {
+    fprintf(stderr, "driver: %s\n", what);
+    exit(2);
+}
+
+static void *room_for(void *old, size_t length) {
+    void *room = realloc(old, length + 1);
+    if (room == NULL) fail("no memory");
+    return room;
+}
+
+static void read_bytes(void *into, size_t length) {
+    if (fread(into, 1, length, stdin) != length) fail("the calls end early");
+}
+
+static uint64_t read_number(void) {
+    uint64_t number;
+    read_bytes(&number, sizeof number);
+    return number;
+}
+
+static size_t read_length(size_t size) {
+    uint64_t length = read_number();
+    if (length > MOST_BYTES / size) fail("a length is too great");
+    return (size_t)length * size;
+}
+
+/* Bytes with their length. */
+struct bytes { uint8_t *at; size_t length; };
+
+/* A row of elements of a size, after how many there are. */
+static void read_row(struct bytes *row, size_t size) {
+    row->length = read_length(size);
+    row->at = room_for(row->at, row->length);
+    read_bytes(row->at, row->length);
+}
+
+/* ---- Buffers between margins */
+
+/* Numbers without order. */
+static uint64_t next_number(void) {
+    static uint64_t state = 1;
+    state = state * 6364136223846793005u + 1442695040888963407u;
+    return state >> 33;
+}
+
+static size_t below(size_t bound) { return (size_t)next_number() % bound; }
+
+/* What every buffer and its margins hold before a call, from a shift on that differs from call to call. */
+static uint8_t *pattern;
+
+static void make_pattern(void) {
+    size_t length = SHIFTS + MARGIN + ALIGNMENTS + MOST_BYTES + MARGIN;
+    pattern = room_for(NULL, length);
+    for (size_t i = 0; i < length; i++) pattern[i] = (uint8_t)next_number();
+}
+
+/* A lent buffer: `length` bytes from `start` on; the rest of all `total` bytes are its margins. At exit its first bytes must be `due`,
+   and all others as they were. */
+struct lent {
+    const char *name;
+    uint8_t *all;
+    size_t total, start, length;
+    const uint8_t *was;
+    struct bytes due;
+};
+
+static uint8_t *lend(struct lent *lent, size_t length, struct bytes due, size_t start) {
+    lent->total = start + length + MARGIN;
+    lent->all = room_for(lent->all, lent->total);
+    lent->start = start;
+    lent->length = length;
+    lent->was = pattern + below(SHIFTS);
+    lent->due = due;
+    memcpy(lent->all, lent->was, lent->total);
+    return lent->all + start;
+}
+
+static int as_due(const struct lent *lent) {
+    size_t written = lent->start + lent->due.length;
+    return memcmp(lent->all, lent->was, lent->start) == 0
+        && memcmp(lent->all + lent->start, lent->due.at, lent->due.length) == 0
+        && memcmp(lent->all + written, lent->was + written, lent->total - written) == 0;
+}
+
+/* The first byte that is not as it must be, from the buffer's start; below 0 in the margin before it. */
+static long first_difference(const struct lent *lent) {
+    for (size_t i = 0; i < lent->total; i++) {
+        int due = i >= lent->start && i < lent->start + lent->due.length;
+        if (lent->all[i] != (due ? lent->due.at[i - lent->start] : lent->was[i])) return (long)i - (long)lent->start;
+    }
+    return 0;
+}
+
+/* ---- Results */
+
+enum { NUMBERS = 29 };
+static unsigned long calls, checks, writes, disagreements, unseen, reached[NUMBERS], accepted, written;
+
+static const char *const ANSWERS[] = {"number", "place", "batches", "transactions", "cents"};
+
+/* The result of a call: its answer beside the one that is due, and its buffers. */
+struct result {
+    const char *function;
+    size_t answers, buffers;
+    uint64_t answer[5], due[5];
+    struct lent *buffer[3];
+};
+
+static int right(const struct result *result) {
+    for (size_t i = 0; i < result->answers; i++)
+        if (result->answer[i] != result->due[i]) return 0;
+    for (size_t i = 0; i < result->buffers; i++)
+        if (!as_due(result->buffer[i])) return 0;
+    return 1;
+}
+
+static void show(const struct result *result) {
+    printf("call %lu, %s:", calls, result->function);
+    for (size_t i = 0; i < result->buffers; i++)
+        printf(" %s of %lu bytes,", result->buffer[i]->name, (unsigned long)result->buffer[i]->length);
+    for (size_t i = 0; i < result->answers; i++)
+        if (result->answer[i] != result->due[i])
+            printf(" %s %llu and not %llu,", ANSWERS[i], (unsigned long long)result->answer[i], (unsigned long long)result->due[i]);
+    for (size_t i = 0; i < result->buffers; i++)
+        if (!as_due(result->buffer[i])) printf(" %s differs at byte %ld,", result->buffer[i]->name, first_difference(result->buffer[i]));
+    printf(" due number %llu\n", (unsigned long long)result->due[0]);
+}
+
+/* Makes one thing wrong: a number of the answer, or a bit in the margin before a buffer, in what was to be written there, in its rest
+   or in the margin after it. */
+static void spoil(struct result *result) {
+    size_t which = below(result->answers + 4 * result->buffers);
+    if (which < result->answers) {
+        result->answer[which] += 1 + below(2);
+        return;
+    }
+    struct lent *lent = result->buffer[(which - result->answers) / 4];
+    size_t edges[5] = {0, lent->start, lent->start + lent->due.length, lent->start + lent->length, lent->total};
+    size_t part = below(4);
+    while (edges[part] == edges[part + 1]) part = (part + 1) % 4;
+    lent->all[edges[part] + below(edges[part + 1] - edges[part])] ^= (uint8_t)(1u << below(8));
+}
+
+/* ---- Calls */
+
+static size_t longest_message, longest_list;
+static const char *keep;
+static struct bytes input;
+static struct lent lent_input = {.name = "input"}, slips = {.name = "slips"}, rows = {.name = "rows"}, out = {.name = "output"};
+
+/* The start of a buffer of bytes, which need not be aligned. */
+static size_t any_start(void) { return MARGIN + below(ALIGNMENTS); }
+
+static uint8_t *lend_input(void) {
+    uint8_t *at = lend(&lent_input, input.length, input, any_start());
+    memcpy(at, input.at, input.length);
+    return at;
+}
+
+static void keep_input(void) {
+    FILE *file = fopen(keep, "wb");
+    if (file == NULL || fwrite(input.at, 1, input.length, file) != input.length || fclose(file) != 0) fail("the input cannot be kept");
+    printf("its input is in %s\n", keep);
+}
+
+static void judge(struct result *result) {
+    calls++;
+    if (result->answer[0] < NUMBERS) reached[result->answer[0]]++;
+    if (!right(result)) {
+        disagreements++;
+        if (disagreements <= MOST_SHOWN) show(result);
+        if (disagreements == 1) keep_input();
+        return;
+    }
+    spoil(result);
+    if (right(result)) unseen++;
+}
+
+static void call_check(void) {
+    static struct bytes due_slips, due_rows;
+    struct result result = {.function = "desk_check", .answers = 5, .buffers = 3, .buffer = {&lent_input, &slips, &rows}};
+    size_t slips_length = read_length(sizeof(uint64_t)), rows_length = read_length(sizeof(uint64_t));
+    for (size_t i = 0; i < 5; i++) result.due[i] = read_number();
+    read_row(&due_slips, sizeof(uint64_t));
+    read_row(&due_rows, sizeof(uint64_t));
+    const uint8_t *message = lend_input();
+    uint64_t *slips_at = (uint64_t *)(void *)lend(&slips, slips_length, due_slips, MARGIN);
+    uint64_t *rows_at = (uint64_t *)(void *)lend(&rows, rows_length, due_rows, MARGIN);
+    struct desk_checked found =
+        desk_check(message, input.length, slips_at, slips_length / sizeof(uint64_t), rows_at, rows_length / sizeof(uint64_t));
+    uint64_t answer[5] = {found.number, found.place, found.batches, found.transactions, found.cents};
+    memcpy(result.answer, answer, sizeof answer);
+    checks++;
+    accepted += found.number == 0;
+    if (input.length > longest_message) longest_message = input.length;
+    judge(&result);
+}
+
+static void call_write(void) {
+    static struct bytes due_out;
+    struct result result = {.function = "desk_write", .answers = 2, .buffers = 2, .buffer = {&lent_input, &out}};
+    uint64_t ceiling = read_number();
+    size_t out_length = read_length(1);
+    for (size_t i = 0; i < 2; i++) result.due[i] = read_number();
+    read_row(&due_out, 1);
+    if (!LIBRARY_WRITES) return;
+    const uint8_t *list = lend_input();
+    uint8_t *out_at = lend(&out, out_length, due_out, any_start());
+    struct desk_written found = desk_write(list, input.length, ceiling, out_at, out_length);
+    result.answer[0] = found.number;
+    result.answer[1] = found.place;
+    writes++;
+    written += found.number == 0;
+    if (input.length > longest_list) longest_list = input.length;
+    judge(&result);
+}
+
+/* ---- Figures */
+
+/* Prints how often the numbers of a job were reached; whether all were. */
+static int print_reached(const char *good, unsigned long often, unsigned first, unsigned last) {
+    int all = often > 0;
+    printf("%s %lu", good, often);
+    for (unsigned number = first; number <= last; number++) {
+        printf(", %u: %lu", number, reached[number]);
+        all &= reached[number] > 0;
+    }
+    printf("%s\n", all ? "" : " (not every number was reached)");
+    return all;
+}
+
+static int print_figures(void) {
+    printf("desk_check: %lu calls, messages of up to %lu bytes; ", checks, (unsigned long)longest_message);
+    int all = print_reached("accepted", accepted, 1, 11);
+    if (LIBRARY_WRITES) {
+        printf("desk_write: %lu calls, lists of up to %lu bytes; ", writes, (unsigned long)longest_list);
+        all &= print_reached("written", written, 21, 28);
+    }
+    printf("%lu calls, %lu disagreements; %lu results spoiled on purpose, %lu of them unseen\n", calls, disagreements,
+           calls - disagreements, unseen);
+    return all;
+}
+
+int main(int argc, char **argv) {
+    if (argc != 2) fail("usage: driver FILE < CALLS");
+    keep = argv[1];
+    make_pattern();
+    for (uint8_t kind = 0; kind != 'E';) {
+        read_bytes(&kind, 1);
+        if (kind == 'I') read_row(&input, 1);
+        else if (kind == 'C') call_check();
+        else if (kind == 'W') call_write();
+        else if (kind != 'E') fail("this is no call");
+    }
+    int all = print_figures();
+    return all && disagreements == 0 && unseen == 0 ? 0 : 1;
+}
