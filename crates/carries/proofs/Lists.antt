@@ -18,8 +18,8 @@ use Rattle.tree.specs.Form.{Message}
 use Rattle.tree.specs.Pain008.{Document}
 use Rattle.message.specs.Message.{batchesOf}
 use Rattle.message.specs.Verdict.{totalsOf}
-use Rattle.state.specs.declared.Checked.{Checked}
-use Rattle.state.specs.declared.Checked.the-variants.{Accepted}
+use Rattle.answer.specs.declared.Checked.{Checked}
+use Rattle.answer.specs.declared.Checked.the-variants.{Accepted}
 use Rattle.checking.specs.Check.{saidBy, Checks}
 use Rattle.checking.proofs.Demand2.{demand-2-accepts}
 use Rattle.daylist.specs.declared.JudgedList.the-variants.{Good}
