@@ -1,4 +1,5 @@
 -- `state::State::fresh` meets its contract: its tally and its slip are fresh.
+use mathlib.Core.Path.{refl}
 use borrow.Author.Needs.{needs}
 use Rattle.state.proofs.State.fresh.Statement.{statement}
 use Rattle.state.proofs.State.fresh.Tie as tie
@@ -10,7 +11,7 @@ fresh-requires-2 : tie.Need-fresh-requires-2
 fresh-requires-2 c κs = search needs
 
 returns : tie.Need-returns
-returns c = cc
+returns c = rw (c .fresh2 .ensures, c .before .before .fresh .ensures) refl
 
 pub fresh-spec : {M : Type 1} → statement M
 fresh-spec = tie.close (tie.spec fresh-requires fresh-requires-2 returns)
