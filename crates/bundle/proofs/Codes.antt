@@ -3,9 +3,11 @@
 --   need-by-number      how many batches are needed, from the numbers
 --   batch-by-number     batch n is the collections whose label, made from the numbers, is n
 --   batches-by-number   so all batches are, in order
+--   label-used          each label below the number needed is some collection's
+--   all-at              what holds of each of a list, at a place
 --   need-by-code, batch-by-code   the same from the codes
-use Prim.Native.Nat.{ℕ, suc, _+_, _≤_, _<_}
-use native.Mathlib.Nat.{le-refl}
+use Prim.Native.Nat.{ℕ, zero, suc, _+_, _≤_, _<_}
+use native.Mathlib.Nat.{le-refl, not-suc-le-zero, le-of-suc-le-suc}
 use native.Mathlib.Omega.{arith}
 use mathlib.Core.Bool.{Bool, true, false, not}
 use mathlib.Core.List.{List, [], _∷_, _++_, map}
@@ -15,10 +17,10 @@ use lib.ListN.{length, getD}
 use Rattle.laws.specs.Lists.{one, putIf, total, count, keep, All, gather}
 use Rattle.laws.proofs.Tests.{true-T, same-test}
 use Rattle.laws.proofs.Counts.{total-ext, count-map, map-id, map-keep, All-putIf}
-use Rattle.bundle.specs.Bundle.{firsts, pieces, ceil, Decides, bundle, need}
+use Rattle.bundle.specs.Bundle.{firsts, pieces, ceil, Decides, bundle, need, Fits}
 use Rattle.bundle.specs.Labels.{unless, firstAt, codes, needOf, labelsOf, pick, upFrom, upTo}
 use Rattle.bundle.proofs.Equality.{eq-true, numbers-decide}
-use Rattle.bundle.proofs.Batches.{batches-number, in-list}
+use Rattle.bundle.proofs.Batches.{batches-fit, batches-number, in-list}
 use Rattle.bundle.proofs.ByLabel.{by-label}
 
 -- ─── equal codes are equal terms ───
@@ -102,6 +104,22 @@ tabled {B} b f k (x ∷ l) e =
     ap₂ {C = List B} (λ (y : B) (ys : List B). y ∷ ys) (e 0 (omega arith) ∙ ap f z)
     (tabled b f (suc k) l (λ i h. e (suc i) (omega arith) ∙ let w : k + suc i ≡ suc k + i = omega arith in ap f w))
 
+-- what holds of each, at a place
+pub all-at : {A : Type 0} (P : A → Type 0) (d : A) (xs : List A) → All P xs → (i : ℕ) → i < length xs → P (getD xs i d)
+all-at P d [] h i l = absurd (not-suc-le-zero l)
+all-at P d (x ∷ xs) h zero l = h .0
+all-at P d (x ∷ xs) h (suc i) l = all-at P d xs (h .1) i (le-of-suc-le-suc l)
+
+-- no more collections are picked by a label than have it
+pick-le : {X : Type 0} (n : ℕ) (ls : List ℕ) (xs : List X) → length (pick n ls xs) ≤ count (eqb n) ls
+pick-le n [] xs = omega arith
+pick-le n (l ∷ ls) [] = omega arith
+pick-le n (l ∷ ls) (x ∷ xs) = go (eqb n l) (pick-le n ls xs)
+  where
+    go : (z : Bool) → length (pick n ls xs) ≤ count (eqb n) ls → length (putIf z x (pick n ls xs)) ≤ one z + count (eqb n) ls
+    go true h = omega arith
+    go false h = omega arith
+
 -- numbers that are equal for two collections exactly where their terms are
 module _ {X K : Type 0} (terms : X → K) (eq : K → K → Bool) (d : Decides eq) (M : X → Type 0) (number : X → ℕ)
     (e : (x y : X) → M x → M y → eq (terms x) (terms y) ≡ eqb (number x) (number y))
@@ -126,6 +144,12 @@ module _ {X K : Type 0} (terms : X → K) (eq : K → K → Bool) (d : Decides e
       tabled [] (λ n. pick n (labelsOf c (map number xs)) xs) 0 (bundle terms eq c xs)
       (λ i l. batch-by-number i (omega (arith, batches-number terms eq d c xs h)) ∙ let z : i ≡ 0 + i = omega arith in ap (λ (j : ℕ). pick j (labelsOf c (map number xs)) xs) z)
       ∙ ap (λ (k : ℕ). map (λ n. pick n (labelsOf c (map number xs)) xs) (upTo k)) n
+
+  pub label-used : (n : ℕ) → n < needOf c (map number xs) → 1 ≤ count (eqb n) (labelsOf c (map number xs))
+  label-used n l =
+      let k : n < need terms eq c xs = omega (arith, need-by-number) in
+      let b = all-at (λ b. (1 ≤ length b) × Fits terms c b) [] (bundle terms eq c xs) (batches-fit terms eq d c xs h) n (omega (arith, batches-number terms eq d c xs h)) in
+      omega (arith, b .0, ap length (batch-by-number n k), pick-le n (labelsOf c (map number xs)) xs)
 
 -- the code is such a number
 module _ {X K : Type 0} (terms : X → K) (eq : K → K → Bool) (d : Decides eq) (c : ℕ) (xs : List X) (h : 1 ≤ c) where

@@ -5,7 +5,7 @@
 --   Marked .. m             `mark`: the collections of one code among the first m have their labels (the record is of specs/)
 --   Labelled c ts out i n   `label`: the collections of the codes before i have their labels, and n is the next free number
 -- Each holds at the start (-start), at one collection more (-same or -other; -new or -old, for a code that comes for the first time or came before), and says
--- at the end (-all, -end) what the function ensures. counted-small: there are never more batches than collections.
+-- at the end (-all, -end) what the function ensures. counted-small: there are never more batches than collections. labels-length: there is a label for each.
 use Prim.Native.Nat.{ℕ, zero, suc, _+_, _/_, _≤_, _<_}
 use native.Mathlib.Nat.{zero-add, add-zero}
 use native.Mathlib.Numerals.{add-one}
@@ -199,6 +199,9 @@ labelsFrom-at first c before (t ∷ ts) (suc j) h = rw (← append-snoc before t
 length-labelsFrom : (first : ℕ → ℕ) (c : ℕ) (before ts : List ℕ) → length (labelsFrom eqb first c before ts) ≡ length ts
 length-labelsFrom first c before [] = refl
 length-labelsFrom first c before (t ∷ ts) = ap suc (length-labelsFrom first c (before ++ t ∷ []) ts)
+
+pub labels-length : (c : ℕ) (ts : List ℕ) → length (labelsOf c ts) ≡ length ts
+labels-length c ts = length-labelsFrom (λ k. base eqb (sizeOf eqb c ts) k (firsts eqb ts)) c [] ts
 
 pub record Labelled (c : ℕ) (ts out : List ℕ) (i n : ℕ) : Type 0 where
   pub counted : Counted c ts i n

@@ -10,7 +10,7 @@ use Rattle.bundle.specs.Labels.{needOf, labelsOf, pick, upTo}
 use Rattle.bundle.proofs.Codes.{need-by-number as by-number, batches-by-number}
 use Rattle.daylist.specs.declared.JudgedList.the-variants.{Good}
 use Rattle.daylist.specs.Stages.{judgedList}
-use Rattle.daylist.proofs.Goods.{GoodList, good-list}
+use Rattle.daylist.proofs.Goods.{good-list}
 use Rattle.listed.specs.Listed.{Collection, sameTerms, termsNumber, listed, numbersOf}
 use Rattle.listed.specs.Good.{GoodTerms}
 use Rattle.listed.proofs.Terms.{terms-decide, same-number}

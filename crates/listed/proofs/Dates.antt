@@ -2,11 +2,11 @@
 --   digits-same   as many digits that spell the same number are the same digits
 --   date-same     good dates that tell the same number are the same
 --   date-under    what a text tells as a date is below 10 to the 8th
-use Prim.Native.Nat.{ℕ, suc, _+_, _-_, _*_, _^_, _<_, _≤_}
+use Prim.Native.Nat.{ℕ, _+_, _-_, _*_, _^_, _<_}
 use native.Mathlib.Omega.{arith}
-use mathlib.Core.Bool.{Bool, true, false, _&&_}
+use mathlib.Core.Bool.{true, false}
 use mathlib.Core.List.{[], _∷_, _++_}
-use mathlib.Core.Path.{_≡_, refl, ap, ap₂, sym, _∙_}
+use mathlib.Core.Path.{_≡_, refl, ap₂, sym, _∙_}
 use lib.Dec.{T, eqb→eq}
 use lib.ListN.{length, take, drop, length-take, length-drop, take-append-drop, drop-of-length-le}
 use lib.Seq.{drop-drop}
@@ -16,7 +16,7 @@ use Rattle.laws.proofs.Loops.{agree-length, agree-take, agree-drop}
 use Rattle.marks.specs.Marks.{digit, mark, fits, value, valueFrom}
 use Rattle.marks.proofs.Classes.{between-low, between-high}
 use Rattle.profile.specs.declared.Flaw.the-variants.{Date}
-use Rattle.text.specs.declared.Judged.the-variants.{Good, Bad}
+use Rattle.text.specs.declared.Judged.the-variants.{Good}
 use Rattle.text.specs.Rules.{must, good, told, part, realDay, dated, date}
 use Rattle.text.proofs.Days.{digitsAt, part-there, part-under}
 

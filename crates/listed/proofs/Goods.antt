@@ -2,17 +2,19 @@
 --   good-creditor      its creditor's
 --   good-collections   each collection's; good-terms: so their terms are good
 --   good-number        it has as many collections as are told
+--   framed-line        a line that holds a frame has the bytes of one
 use Prim.Native.Nat.{ℕ, zero, suc, _+_, _-_, _<_, _≤_}
 use native.Mathlib.Nat.{not-suc-le-zero, le-of-suc-le-suc}
 use native.Mathlib.Omega.{arith}
 use mathlib.Core.Bool.{Bool, true, false, _&&_}
 use mathlib.Core.List.{List, [], _∷_, _++_, map}
 use mathlib.Core.Path.{_≡_, refl, ap, sym, _∙_}
-use lib.Dec.{T, eqb, leb, leb→le, eqb·suc-zero}
+use lib.Dec.{T, leb, leb→le, eqb·suc-zero}
 use lib.ListN.{length, drop, getD}
 use Rattle.laws.specs.Bytes.{Bytes, between}
 use Rattle.laws.specs.Lists.{All}
 use Rattle.laws.proofs.Tests.{and-l, and-r, T-true, true-T}
+use Rattle.laws.proofs.Counts.{All-map}
 use Rattle.profile.specs.Limits.{mostCents}
 use Rattle.profile.specs.declared.Flaw.{Flaw}
 use Rattle.profile.specs.declared.Flaw.the-variants.{Number, Code}
@@ -35,7 +37,7 @@ use Rattle.daylist.specs.Lead.{highFirst, scheme, sequence, cents}
 use Rattle.daylist.specs.Values.{judgedLead, judgedTexts, judgedFields, firstBad, judgedLine, else}
 use Rattle.daylist.specs.Stages.{framesFrom, valuesFrom, judgedList}
 use Rattle.daylist.proofs.Goods.{GoodList, good-list, must-good, of-good}
-use Rattle.listed.specs.Listed.{Terms, Collection, Creditor, collectionOf, creditorOf, firstLine, creditor, listed}
+use Rattle.listed.specs.Listed.{collectionOf, creditorOf, firstLine, creditor, listed}
 use Rattle.listed.specs.Good.{emptyOr, GoodTerms, GoodCollection, GoodCreditor}
 use Rattle.listed.proofs.Lines.{listed-number}
 
@@ -90,7 +92,7 @@ framed-number f s e =
     sym (held-number (f .texts) (drop (1 + f .lead) s) (true-T (holds (f .texts) (drop (1 + f .lead) s)) (rw n at h)))
 
 -- a line that holds a frame
-framed-line : (f : Frame) (l : Line) → isFrame f l ≡ true → framed f (unhex (l .bytes)) ≡ true
+pub framed-line : (f : Frame) (l : Line) → isFrame f l ≡ true → framed f (unhex (l .bytes)) ≡ true
 framed-line f l e =
     let t = true-T (isFrame f l) e in
     T-true _ (and-r (hex (l .bytes)) (framed f (unhex (l .bytes))) (and-r (l .ended) (hex (l .bytes) && framed f (unhex (l .bytes))) t))
@@ -194,8 +196,4 @@ module _ (s : Bytes) (c n : ℕ) (e : judgedList s c ≡ Good n) where
           (of-good (judgedLine 1 (unhex (l .bytes))) 1 (list .told) (valuesFrom 1 ls) v .1)
 
   pub good-terms : All (λ x. GoodTerms (x .terms)) (listed s)
-  good-terms = go (listed s) good-collections
-    where
-      go : (xs : List Collection) → All GoodCollection xs → All (λ x. GoodTerms (x .terms)) xs
-      go [] h = tt
-      go (x ∷ xs) h = (h .0 .terms, go xs (h .1))
+  good-terms = All-map GoodCollection (λ x. GoodTerms (x .terms)) (listed s) (λ x g. g .terms) good-collections

@@ -3,14 +3,14 @@
 --   number-bytes            the number of a line's terms, from its bytes
 --   listed-number           there is a collection for each line but the first
 --   numbers-length          and a number for each; numbers-fit: as many as the table of starts has, but for one
---   number-at               the number of collection i, from its line
+--   collection-at           collection i, from its line
 --   start-there, number-read   line i + 1 starts within the list; the number of what is read there
 --   starts-whole            a table with a place for each line holds the starts and nothing else
 use Prim.Native.Nat.{ℕ, zero, suc, _+_, _-_, _*_, _<_, _≤_, min}
 use native.Mathlib.Nat.{not-suc-le-zero, le-of-suc-le-suc}
 use native.Mathlib.Omega.{arith}
 use mathlib.Core.Bool.{false}
-use mathlib.Core.List.{List, [], _∷_, _++_, map}
+use mathlib.Core.List.{List, [], _∷_, map}
 use mathlib.Core.Path.{_≡_, refl, ap, sym, _∙_}
 use lib.ListN.{length, take, drop, getD, length-map, length-drop, drop-of-length-le}
 use lib.Seq.{getD-drop, take-all}
@@ -64,7 +64,7 @@ map-at f [] i b a h = absurd (not-suc-le-zero h)
 map-at f (x ∷ l) zero b a h = refl
 map-at f (x ∷ l) (suc i) b a h = map-at f l i b a (le-of-suc-le-suc h)
 
-none : Line
+abbrev pub none : Line
 none = record { bytes = []; ended = false }
 
 pub listed-number : (s : Bytes) → length (listed s) ≡ length (lines s) - 1
@@ -77,14 +77,17 @@ numbers-length s = length-map (listed s) _ ∙ listed-number s
 abbrev pub lineFrom : Bytes → ℕ → Bytes
 lineFrom s a = take (span notEnd (drop a s)) (drop a s)
 
-pub number-at : (s : Bytes) (i : ℕ) → i + 1 < length (lines s)
-    → getD (numbersOf s) i 0 ≡ termsNumber (collectionOf (unhex (lineFrom s (getD (starts s) (i + 1) 0))) .terms)
-number-at s i h =
+pub collection-at : (s : Bytes) (i : ℕ) (d : Collection) → i + 1 < length (lines s) → getD (listed s) i d ≡ collectionOf (unhex (lineFrom s (getD (starts s) (i + 1) 0)))
+collection-at s i d h =
     let n : 1 + i ≡ i + 1 = omega arith in
-    map-at (λ x. termsNumber (x .terms)) (listed s) i 0 (collectionOf (unhex [])) (omega (arith, listed-number s))
-    ∙ ap (λ (x : Collection). termsNumber (x .terms)) (map-at (λ (l : Line). collectionOf (unhex (l .bytes))) (drop 1 (lines s)) i (collectionOf (unhex [])) none (omega (arith, length-drop 1 (lines s))))
-    ∙ ap (λ (l : Line). termsNumber (collectionOf (unhex (l .bytes)) .terms)) (getD-drop 1 (lines s) i none ∙ ap (λ (k : ℕ). getD (lines s) k none) n)
-    ∙ ap (λ (b : Bytes). termsNumber (collectionOf (unhex b) .terms)) (sym (line-at none s (i + 1) h))
+    map-at (λ (l : Line). collectionOf (unhex (l .bytes))) (drop 1 (lines s)) i d none (omega (arith, length-drop 1 (lines s)))
+    ∙ ap (λ (l : Line). collectionOf (unhex (l .bytes))) (getD-drop 1 (lines s) i none ∙ ap (λ (k : ℕ). getD (lines s) k none) n)
+    ∙ ap (λ (b : Bytes). collectionOf (unhex b)) (sym (line-at none s (i + 1) h))
+
+number-at : (s : Bytes) (i : ℕ) → i + 1 < length (lines s) → getD (numbersOf s) i 0 ≡ termsNumber (collectionOf (unhex (lineFrom s (getD (starts s) (i + 1) 0))) .terms)
+number-at s i h =
+    map-at (λ x. termsNumber (x .terms)) (listed s) i 0 (collectionOf []) (omega (arith, listed-number s))
+    ∙ ap (λ (x : Collection). termsNumber (x .terms)) (collection-at s i (collectionOf []) h)
 
 -- ─── the table of starts ───
 

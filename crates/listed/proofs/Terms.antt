@@ -3,16 +3,15 @@
 --   same-number    good terms are the same exactly where their numbers are
 use Prim.Native.Nat.{ℕ, _+_, _*_, _≤_}
 use native.Mathlib.Omega.{arith}
-use mathlib.Core.Bool.{Bool, _&&_}
-use mathlib.Core.Path.{_≡_, refl, ap, sym}
+use mathlib.Core.Bool.{_&&_}
+use mathlib.Core.Path.{_≡_, ap}
 use lib.Dec.{T, eqb, eqb→eq, eqb-refl}
 use Rattle.laws.specs.Bytes.{Bytes, same}
-use Rattle.laws.proofs.Tests.{and-l, and-r, and-both, same-test}
+use Rattle.laws.proofs.Tests.{and-l, and-r, and-both, true-T, same-test}
 use Rattle.laws.proofs.Loops.{same-eq}
 use Rattle.text.specs.Rules.{told, date}
 use Rattle.bundle.specs.Bundle.{Decides}
 use Rattle.bundle.proofs.Equality.{bytes-decide, numbers-decide, eq-true}
-use Rattle.laws.proofs.Tests.{true-T}
 use Rattle.listed.specs.Listed.{Terms, sameTerms, termsNumber}
 use Rattle.listed.specs.Good.{GoodTerms}
 use Rattle.listed.proofs.Dates.{date-same}

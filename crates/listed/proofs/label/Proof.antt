@@ -1,5 +1,5 @@
 -- `listed::label` meets its contract. There are at most 1,000 collections, so the numbers have room.
-use Rattle.daylist.proofs.Goods.{GoodList, good-list}
+use Rattle.daylist.proofs.Goods.{good-list}
 use Prim.Native.Nat.{_≤_}
 use lib.ListN.{length}
 use lib.Seq.{length-take-le}

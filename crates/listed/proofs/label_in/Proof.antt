@@ -1,6 +1,5 @@
 -- `listed::label_in` meets its contract. Of a good list the table holds the starts and nothing else, and the numbers are those of all its collections' terms.
 use Rattle.listed.proofs.Lines.{numbers-length, starts-whole}
-use Rattle.listed.specs.Listed.{numbersOf}
 use Rattle.daylist.proofs.Goods.{GoodList, good-list}
 use Rattle.bundle.specs.Labels.{needOf, labelsOf}
 use Rattle.frames.specs.Lines.{starts}

@@ -4,7 +4,7 @@ use Rattle.listed.proofs.Dates.{date-under}
 use Rattle.listed.specs.Listed.{collectionOf}
 use Rattle.frames.specs.Hex.{unhex}
 use Prim.Native.Nat.{_<_, _^_}
-use mathlib.Core.Path.{_≡_, sym, _∙_, ap}
+use mathlib.Core.Path.{_∙_}
 use native.Mathlib.Omega.{arith}
 use borrow.Author.Needs.{needs}
 use Rattle.listed.proofs.terms_number.Statement.{statement}

@@ -1,9 +1,9 @@
 -- `lists::print_good` meets its contract. A good list has at most 1,000 collections, so both tables have room.
-use Rattle.daylist.proofs.Goods.{GoodList, good-list}
+use Rattle.daylist.proofs.Goods.{good-list}
 use Rattle.daylist.specs.declared.JudgedList.the-variants.{Good}
 use Prim.Native.Nat.{ℕ, _+_, _≤_}
 use lib.Seq.{length-take-le}
-use mathlib.Core.Path.{_≡_, ap, sym, _∙_}
+use mathlib.Core.Path.{ap, sym, _∙_}
 use native.Mathlib.Omega.{arith}
 use borrow.Author.Needs.{needs}
 use Rattle.lists.proofs.print_good.Statement.{statement}
