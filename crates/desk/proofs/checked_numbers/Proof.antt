@@ -1,9 +1,9 @@
--- `desk::in_numbers` meets its contract, case by case.
+-- `desk::checked_numbers` meets its contract, case by case.
 use borrow.Author.Needs.{needs}
-use Rattle.desk.proofs.in_numbers.Statement.{statement}
-use Rattle.desk.proofs.in_numbers.Tie as tie
-use Rattle.desk.proofs.in_numbers.Reads as reads
-use Rattle.desk.proofs.in_numbers.Lts as lts
+use Rattle.desk.proofs.checked_numbers.Statement.{statement}
+use Rattle.desk.proofs.checked_numbers.Tie as tie
+use Rattle.desk.proofs.checked_numbers.Reads as reads
+use Rattle.desk.proofs.checked_numbers.Lts as lts
 use Rattle.profile.proofs.Refusal.number.Reads as number-reads
 use Rattle.profile.proofs.Refusal.place.Reads as place-reads
 
@@ -31,8 +31,8 @@ returns c = rw (c .before .checked .given .1)
 returns-2 : tie.Need-returns-2
 returns-2 c = rw (c .before .number .ensures, c .place .ensures, c .before .before .before .checked2 .given .1)
 
-pub in-numbers-spec : {M : Type 1} → statement M
-in-numbers-spec =
+pub checked-numbers-spec : {M : Type 1} → statement M
+checked-numbers-spec =
     tie.close
     (tie.spec
     enum-known-checked

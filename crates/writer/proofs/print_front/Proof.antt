@@ -1,0 +1,29 @@
+-- `writer::print_front` meets its contract: the part that is lent has the length told.
+use native.Mathlib.Omega.{arith}
+use mathlib.Core.Path.{sym}
+use lib.Seq.{length-take-le}
+use borrow.Author.Needs.{needs}
+use Rattle.writer.proofs.print_front.Statement.{statement}
+use Rattle.writer.proofs.print_front.Tie as tie
+use Rattle.writer.proofs.print_front.Reads as reads
+use Rattle.writer.proofs.print_front.Lts as lts
+use Rattle.writer.proofs.print.Reads as print-reads
+
+-- src/main.rt:38:9
+returns : tie.Need-returns
+returns c = search needs
+
+-- src/main.rt:40:11
+slice-aggregate-print : tie.Need-slice-aggregate-print
+slice-aggregate-print c = sym (length-take-le _ _ (omega arith))
+
+-- src/main.rt:40:5
+print-requires : tie.Need-print-requires
+print-requires c κs = search needs
+
+-- src/main.rt:36:1
+returns-2 : tie.Need-returns-2
+returns-2 c = search needs
+
+pub print-front-spec : {M : Type 1} → statement M
+print-front-spec = tie.close (tie.spec returns slice-aggregate-print print-requires returns-2)

@@ -1,0 +1,94 @@
+// Writes the message for the day list on standard input, at the ceiling that the argument says in digits. Prints
+//   the message, with nothing behind it
+//   NO number place   the first of refusals 21 to 27
+//   TOO LONG          the list or its message has more than 65,536 bytes
+ghost use Prim.Native.Nat.{_<_};
+use libc::STDIN_FILENO;
+use libc::STDOUT_FILENO;
+use profile::ListRefusal;
+use write::Written;
+
+fn print(text: &[u8]) {
+    io::write_all(STDOUT_FILENO, text);
+}
+
+// A number, behind a space.
+fn print_number(n: u64) {
+    print(b" ");
+    io::print_decimal(STDOUT_FILENO, n);
+}
+
+// ─── the message ───
+
+// An output that is too short is the program's own.
+fn print_refusal(refusal: ListRefusal) {
+    let number = refusal.number();
+    if number == 28 {
+        print(b"TOO LONG\n");
+        return;
+    }
+    print(b"NO");
+    print_number(number);
+    print_number(refusal.place() as u64);
+    print(b"\n");
+}
+
+fn print_front(out: &[u8], length: usize) {
+    if out.len() < length {
+        return;
+    }
+    print(&out[..length]);
+}
+
+fn print_written(list: &[u8], ceiling: u64) {
+    let mut out = [0u8; 65536];
+    match write::write(list, ceiling, &mut out) {
+        Written::Length(length) => print_front(&out, length),
+        Written::Refused(refusal) => print_refusal(refusal),
+    }
+}
+
+// ─── the argument ───
+
+fn wide(c: u8) -> u64
+    ensures { λ r. ⌜ r < 256 ⌝ }
+{
+    c as u64
+}
+
+// The number that digits spell. Where it is above every ceiling the digits left do not matter.
+fn spelled(digits: &[u8]) -> u64 {
+    let mut v: u64 = 0;
+    let mut i = 0;
+    while i < digits.len() {
+        if v < 1000 {
+            v = v * 10 + wide(frames::hex::hex_value(digits[i]));
+        }
+        i += 1;
+    }
+    v
+}
+
+// The argument; the ceiling is 0, which is none, where it is not all digits.
+fn ceiling_of(word: &[u8]) -> u64 {
+    if marks::digits(word) < word.len() {
+        return 0;
+    }
+    spelled(word)
+}
+
+fn print_list(list: &[u8]) {
+    let mut word = io::buffer();
+    let n = os::arg(1, &mut word);
+    print_written(list, ceiling_of(&word[..n]));
+}
+
+fn main() {
+    let mut list = [0u8; 65537];
+    let n = io::read_full(STDIN_FILENO, &mut list);
+    if 65536 < n {
+        print(b"TOO LONG\n");
+        return;
+    }
+    print_list(&list[..n]);
+}
