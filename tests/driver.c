@@ -6,22 +6,13 @@
    comparison must see it.
 
    Prints the figures. The input of the first disagreement is kept in FILE. Exit status 0: no disagreement, no spoiled result unseen,
-   every number reached; 1: otherwise; 2: the calls cannot be read.
-
-   NO_WRITE: the library has no desk_write, and its calls are left out. */
+   every number reached; 1: otherwise; 2: the calls cannot be read. */
 #include "desk.h"
 #include <stdint.h>
 #include <stdio.h>
 #include <string.h>
 
 enum { MOST_BYTES = 1 << 22, MARGIN = 1024, ALIGNMENTS = 16, SHIFTS = 251, MOST_SHOWN = 10 };
-
-#ifdef NO_WRITE
-enum { LIBRARY_WRITES = 0 };
-#define desk_write(list, list_len, ceiling, out, out_len) ((void)(list), (void)(ceiling), (void)(out), (struct desk_written){0, 0})
-#else
-enum { LIBRARY_WRITES = 1 };
-#endif
 
 /* ---- Reading the calls */
 
@@ -228,7 +219,7 @@ static void call_write(void) {
     size_t out_length = read_length(1);
     for (size_t i = 0; i < 2; i++) result.due[i] = read_number();
     read_row(&due_out, 1);
-    if (trouble != NULL || !LIBRARY_WRITES) return;
+    if (trouble != NULL) return;
     const uint8_t *list = lend_input();
     uint8_t *out_at = lend(&out, out_length, &due_out, any_start());
     struct desk_written found = desk_write(list, input.length, ceiling, out_at, out_length);
@@ -257,10 +248,8 @@ static int print_reached(const char *good, unsigned long often, unsigned first, 
 static int print_figures(void) {
     printf("desk_check: %lu calls, messages of up to %lu bytes; ", checks, (unsigned long)longest_message);
     int all = print_reached("accepted", accepted, 1, 11);
-    if (LIBRARY_WRITES) {
-        printf("desk_write: %lu calls, lists of up to %lu bytes; ", writes, (unsigned long)longest_list);
-        all &= print_reached("written", written, 21, 28);
-    }
+    printf("desk_write: %lu calls, lists of up to %lu bytes; ", writes, (unsigned long)longest_list);
+    all &= print_reached("written", written, 21, 28);
     printf("%lu calls, %lu disagreements; %lu results spoiled on purpose, %lu of them unseen\n", calls, disagreements,
            calls - disagreements, unseen);
     return all;
