@@ -6,39 +6,22 @@
    comparison must see it.
 
    Prints the figures. The input of the first disagreement is kept in FILE. Exit status 0: no disagreement, no spoiled result unseen,
-   every number reached; 1: otherwise; 2: the calls cannot be read.
-
-   NO_WRITE: the library has no desk_write, and its calls are left out. */
+   every number reached; 1: otherwise; 2: the calls cannot be read. */
 #include "desk.h"
 #include <stdint.h>
 #include <stdio.h>
-#include <stdlib.h>
 #include <string.h>
 
-enum { MARGIN = 1024, ALIGNMENTS = 16, SHIFTS = 251, MOST_BYTES = 1 << 24, MOST_SHOWN = 10 };
-
-#ifdef NO_WRITE
-enum { LIBRARY_WRITES = 0 };
-#define desk_write(list, list_len, ceiling, out, out_len) ((void)(list), (void)(ceiling), (void)(out), (struct desk_written){0, 0})
-#else
-enum { LIBRARY_WRITES = 1 };
-#endif
+enum { MOST_BYTES = 1 << 22, MARGIN = 1024, ALIGNMENTS = 16, SHIFTS = 251, MOST_SHOWN = 10 };
 
 /* ---- Reading the calls */
 
-static void fail(const char *what) {
-    fprintf(stderr, "driver: %s\n", what);
-    exit(2);
-}
-
-static void *room_for(void *old, size_t length) {
-    void *room = realloc(old, length + 1);
-    if (room == NULL) fail("no memory");
-    return room;
-}
+/* Why the calls cannot be read, or NULL. From then on every number read is 0. */
+static const char *trouble;
 
 static void read_bytes(void *into, size_t length) {
-    if (fread(into, 1, length, stdin) != length) fail("the calls end early");
+    if (trouble == NULL && fread(into, 1, length, stdin) != length) trouble = "the calls end early";
+    if (trouble != NULL) memset(into, 0, length);
 }
 
 static uint64_t read_number(void) {
@@ -47,19 +30,22 @@ static uint64_t read_number(void) {
     return number;
 }
 
+/* A length in elements of a size, in bytes. */
 static size_t read_length(size_t size) {
     uint64_t length = read_number();
-    if (length > MOST_BYTES / size) fail("a length is too great");
-    return (size_t)length * size;
+    if (length <= MOST_BYTES / size) return (size_t)length * size;
+    trouble = "a length is too great";
+    return 0;
 }
 
-/* Bytes with their length. */
-struct bytes { uint8_t *at; size_t length; };
+struct bytes {
+    size_t length;
+    uint8_t at[MOST_BYTES];
+};
 
 /* A row of elements of a size, after how many there are. */
 static void read_row(struct bytes *row, size_t size) {
     row->length = read_length(size);
-    row->at = room_for(row->at, row->length);
     read_bytes(row->at, row->length);
 }
 
@@ -74,28 +60,27 @@ static uint64_t next_number(void) {
 
 static size_t below(size_t bound) { return (size_t)next_number() % bound; }
 
+enum { MOST_LENT = MARGIN + ALIGNMENTS + MOST_BYTES + MARGIN };
+
 /* What every buffer and its margins hold before a call, from a shift on that differs from call to call. */
-static uint8_t *pattern;
+static uint8_t pattern[SHIFTS + MOST_LENT];
 
 static void make_pattern(void) {
-    size_t length = SHIFTS + MARGIN + ALIGNMENTS + MOST_BYTES + MARGIN;
-    pattern = room_for(NULL, length);
-    for (size_t i = 0; i < length; i++) pattern[i] = (uint8_t)next_number();
+    for (size_t i = 0; i < sizeof pattern; i++) pattern[i] = (uint8_t)next_number();
 }
 
-/* A lent buffer: `length` bytes from `start` on; the rest of all `total` bytes are its margins. At exit its first bytes must be `due`,
-   and all others as they were. */
+/* A lent buffer: `length` bytes from `start` on; the rest of the first `total` bytes are its margins. At exit it must begin with `due`,
+   and all else be as it was. */
 struct lent {
     const char *name;
-    uint8_t *all;
     size_t total, start, length;
     const uint8_t *was;
-    struct bytes due;
+    const struct bytes *due;
+    _Alignas(uint64_t) uint8_t all[MOST_LENT];
 };
 
-static uint8_t *lend(struct lent *lent, size_t length, struct bytes due, size_t start) {
+static uint8_t *lend(struct lent *lent, size_t length, const struct bytes *due, size_t start) {
     lent->total = start + length + MARGIN;
-    lent->all = room_for(lent->all, lent->total);
     lent->start = start;
     lent->length = length;
     lent->was = pattern + below(SHIFTS);
@@ -105,17 +90,17 @@ static uint8_t *lend(struct lent *lent, size_t length, struct bytes due, size_t 
 }
 
 static int as_due(const struct lent *lent) {
-    size_t written = lent->start + lent->due.length;
+    size_t written = lent->start + lent->due->length;
     return memcmp(lent->all, lent->was, lent->start) == 0
-        && memcmp(lent->all + lent->start, lent->due.at, lent->due.length) == 0
+        && memcmp(lent->all + lent->start, lent->due->at, lent->due->length) == 0
         && memcmp(lent->all + written, lent->was + written, lent->total - written) == 0;
 }
 
 /* The first byte that is not as it must be, from the buffer's start; below 0 in the margin before it. */
 static long first_difference(const struct lent *lent) {
     for (size_t i = 0; i < lent->total; i++) {
-        int due = i >= lent->start && i < lent->start + lent->due.length;
-        if (lent->all[i] != (due ? lent->due.at[i - lent->start] : lent->was[i])) return (long)i - (long)lent->start;
+        int due = i >= lent->start && i < lent->start + lent->due->length;
+        if (lent->all[i] != (due ? lent->due->at[i - lent->start] : lent->was[i])) return (long)i - (long)lent->start;
     }
     return 0;
 }
@@ -164,7 +149,7 @@ static void spoil(struct result *result) {
         return;
     }
     struct lent *lent = result->buffer[(which - result->answers) / 4];
-    size_t edges[5] = {0, lent->start, lent->start + lent->due.length, lent->start + lent->length, lent->total};
+    size_t edges[5] = {0, lent->start, lent->start + lent->due->length, lent->start + lent->length, lent->total};
     size_t part = below(4);
     while (edges[part] == edges[part + 1]) part = (part + 1) % 4;
     lent->all[edges[part] + below(edges[part + 1] - edges[part])] ^= (uint8_t)(1u << below(8));
@@ -181,15 +166,16 @@ static struct lent lent_input = {.name = "input"}, slips = {.name = "slips"}, ro
 static size_t any_start(void) { return MARGIN + below(ALIGNMENTS); }
 
 static uint8_t *lend_input(void) {
-    uint8_t *at = lend(&lent_input, input.length, input, any_start());
+    uint8_t *at = lend(&lent_input, input.length, &input, any_start());
     memcpy(at, input.at, input.length);
     return at;
 }
 
 static void keep_input(void) {
     FILE *file = fopen(keep, "wb");
-    if (file == NULL || fwrite(input.at, 1, input.length, file) != input.length || fclose(file) != 0) fail("the input cannot be kept");
-    printf("its input is in %s\n", keep);
+    int kept = file != NULL && fwrite(input.at, 1, input.length, file) == input.length;
+    if (file != NULL && fclose(file) == 0 && kept) printf("its input is in %s\n", keep);
+    else printf("its input cannot be kept in %s\n", keep);
 }
 
 static void judge(struct result *result) {
@@ -212,9 +198,10 @@ static void call_check(void) {
     for (size_t i = 0; i < 5; i++) result.due[i] = read_number();
     read_row(&due_slips, sizeof(uint64_t));
     read_row(&due_rows, sizeof(uint64_t));
+    if (trouble != NULL) return;
     const uint8_t *message = lend_input();
-    uint64_t *slips_at = (uint64_t *)(void *)lend(&slips, slips_length, due_slips, MARGIN);
-    uint64_t *rows_at = (uint64_t *)(void *)lend(&rows, rows_length, due_rows, MARGIN);
+    uint64_t *slips_at = (uint64_t *)(void *)lend(&slips, slips_length, &due_slips, MARGIN);
+    uint64_t *rows_at = (uint64_t *)(void *)lend(&rows, rows_length, &due_rows, MARGIN);
     struct desk_checked found =
         desk_check(message, input.length, slips_at, slips_length / sizeof(uint64_t), rows_at, rows_length / sizeof(uint64_t));
     uint64_t answer[5] = {found.number, found.place, found.batches, found.transactions, found.cents};
@@ -232,9 +219,9 @@ static void call_write(void) {
     size_t out_length = read_length(1);
     for (size_t i = 0; i < 2; i++) result.due[i] = read_number();
     read_row(&due_out, 1);
-    if (!LIBRARY_WRITES) return;
+    if (trouble != NULL) return;
     const uint8_t *list = lend_input();
-    uint8_t *out_at = lend(&out, out_length, due_out, any_start());
+    uint8_t *out_at = lend(&out, out_length, &due_out, any_start());
     struct desk_written found = desk_write(list, input.length, ceiling, out_at, out_length);
     result.answer[0] = found.number;
     result.answer[1] = found.place;
@@ -261,25 +248,30 @@ static int print_reached(const char *good, unsigned long often, unsigned first, 
 static int print_figures(void) {
     printf("desk_check: %lu calls, messages of up to %lu bytes; ", checks, (unsigned long)longest_message);
     int all = print_reached("accepted", accepted, 1, 11);
-    if (LIBRARY_WRITES) {
-        printf("desk_write: %lu calls, lists of up to %lu bytes; ", writes, (unsigned long)longest_list);
-        all &= print_reached("written", written, 21, 28);
-    }
+    printf("desk_write: %lu calls, lists of up to %lu bytes; ", writes, (unsigned long)longest_list);
+    all &= print_reached("written", written, 21, 28);
     printf("%lu calls, %lu disagreements; %lu results spoiled on purpose, %lu of them unseen\n", calls, disagreements,
            calls - disagreements, unseen);
     return all;
 }
 
 int main(int argc, char **argv) {
-    if (argc != 2) fail("usage: driver FILE < CALLS");
+    if (argc != 2) {
+        fprintf(stderr, "usage: driver FILE < CALLS\n");
+        return 2;
+    }
     keep = argv[1];
     make_pattern();
-    for (uint8_t kind = 0; kind != 'E';) {
+    for (uint8_t kind = 0; kind != 'E' && trouble == NULL;) {
         read_bytes(&kind, 1);
         if (kind == 'I') read_row(&input, 1);
         else if (kind == 'C') call_check();
         else if (kind == 'W') call_write();
-        else if (kind != 'E') fail("this is no call");
+        else if (kind != 'E' && trouble == NULL) trouble = "this is no call";
+    }
+    if (trouble != NULL) {
+        fprintf(stderr, "driver: %s\n", trouble);
+        return 2;
     }
     int all = print_figures();
     return all && disagreements == 0 && unseen == 0 ? 0 : 1;

@@ -1,6 +1,0 @@
-/* For a compiler without the C library's headers: what tests/driver.c and include/desk.h take from this one. */
-#ifndef BARE_STDINT_H
-#define BARE_STDINT_H
-typedef __UINT8_TYPE__ uint8_t;
-typedef __UINT64_TYPE__ uint64_t;
-#endif
