@@ -1,8 +1,9 @@
-# demo   the main job on an example
+# demo   the two jobs on examples
 # test   the gate: every proof, every must-fail edit, every program; its last line is `N passed, 0 failed`
 # lib    target/staticlib/libdesk.a, the library for C (include/desk.h)
 # desk   target/desk, the command for people
-.PHONY: demo test lib desk
+# soak   the library beside the second program with fresh seeds: make soak SECONDS=600
+.PHONY: demo test lib desk soak
 .SILENT:
 
 demo:
@@ -16,3 +17,6 @@ lib:
 
 desk: lib
 	./tools/link target/desk host/*.c
+
+soak:
+	./tools/soak $(or $(SECONDS),600)
