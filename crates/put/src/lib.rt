@@ -49,7 +49,7 @@ pub fn put_byte(out: &mut [u8], at: usize, b: u8) -> usize
 
 // The bytes that hexadecimal digits stand for.
 pub fn put_hex(out: &mut [u8], at: usize, digits: &[u8]) -> usize
-    requires { ⌜ at + length (now digits) < 2 ^ 32 ⌝ }
+    requires { ⌜ at + length (unhex (now digits)) < 2 ^ 32 ⌝ }
     ensures { λ r. ⌜ Wrote (now (out .entry)) (now (out .exit)) at r (unhex (now (digits .entry))) ⌝ }
 {
     let end = at + digits.len() / 2;
