@@ -1,6 +1,9 @@
--- CODES SERVE FOR TERMS: the batches depend on which collections are alike, and on nothing else, so they are the same by codes as by terms.
---   need-by-code    how many batches are needed, from the codes
---   batch-by-code   batch n is the collections whose label, made from the codes, is n
+-- NUMBERS SERVE FOR TERMS: the batches depend on which collections are alike, and on nothing else, so they are the same by numbers as by terms.
+-- Such numbers are equal for two collections exactly where their terms are; codes are.
+--   need-by-number      how many batches are needed, from the numbers
+--   batch-by-number     batch n is the collections whose label, made from the numbers, is n
+--   batches-by-number   so all batches are, in order
+--   need-by-code, batch-by-code   the same from the codes
 use Prim.Native.Nat.{ℕ, suc, _+_, _≤_, _<_}
 use native.Mathlib.Nat.{le-refl}
 use native.Mathlib.Omega.{arith}
@@ -13,7 +16,7 @@ use Rattle.laws.specs.Lists.{one, putIf, total, count, keep, All, gather}
 use Rattle.laws.proofs.Tests.{true-T, same-test}
 use Rattle.laws.proofs.Counts.{total-ext, count-map, map-id, map-keep, All-putIf}
 use Rattle.bundle.specs.Bundle.{firsts, pieces, ceil, Decides, bundle, need}
-use Rattle.bundle.specs.Labels.{unless, firstAt, codes, needOf, labelsOf, pick}
+use Rattle.bundle.specs.Labels.{unless, firstAt, codes, needOf, labelsOf, pick, upFrom, upTo}
 use Rattle.bundle.proofs.Equality.{eq-true, numbers-decide}
 use Rattle.bundle.proofs.Batches.{batches-number, in-list}
 use Rattle.bundle.proofs.ByLabel.{by-label}
@@ -84,28 +87,62 @@ module _ {X K : Type 0} (terms : X → K) (eq : K → K → Bool) where
   bundle-groups c xs = ap (gather (λ k. pieces c (keep (λ x. eq k (terms x)) xs))) (sym (firsts-map xs))
       ∙ gather-map (λ k. pieces c (keep (λ x. eq k (terms x)) xs)) (firsts (λ x y. eq (terms x) (terms y)) xs)
 
--- ─── the batches by code ───
+-- ─── the batches by number, and by code ───
 
 need-map : {X : Type 0} (code : X → ℕ) (c : ℕ) (xs : List X) → need code eqb c xs ≡ needOf c (map code xs)
 need-map code c xs = total-ext (λ k. ceil (count (λ x. eqb k (code x)) xs) c) (λ k. ceil (count (eqb k) (map code xs)) c) (firsts eqb (map code xs))
     (λ k. ap (λ (n : ℕ). ceil n c) (sym (count-map code (eqb k) xs)))
     ∙ ap (λ (ts : List ℕ). total (λ k. ceil (count (eqb k) (map code xs)) c) (firsts eqb ts)) (sym (map-id (map code xs)))
 
+-- a list by what stands at each place
+tabled : {B : Type 0} (b : B) (f : ℕ → B) (k : ℕ) (l : List B) → ((i : ℕ) → i < length l → getD l i b ≡ f (k + i)) → l ≡ map f (upFrom k (length l))
+tabled b f k [] e = refl
+tabled {B} b f k (x ∷ l) e =
+    let z : k + 0 ≡ k = omega arith in
+    ap₂ {C = List B} (λ (y : B) (ys : List B). y ∷ ys) (e 0 (omega arith) ∙ ap f z)
+    (tabled b f (suc k) l (λ i h. e (suc i) (omega arith) ∙ let w : k + suc i ≡ suc k + i = omega arith in ap f w))
+
+-- numbers that are equal for two collections exactly where their terms are
+module _ {X K : Type 0} (terms : X → K) (eq : K → K → Bool) (d : Decides eq) (M : X → Type 0) (number : X → ℕ)
+    (e : (x y : X) → M x → M y → eq (terms x) (terms y) ≡ eqb (number x) (number y))
+    (c : ℕ) (xs : List X) (h : 1 ≤ c) (m : All M xs) where
+  bundle-number : bundle terms eq c xs ≡ bundle number eqb c xs
+  bundle-number = bundle-groups terms eq c xs
+      ∙ groups-agree M (λ x y. eq (terms x) (terms y)) (λ x y. eqb (number x) (number y)) e c xs m
+      ∙ sym (bundle-groups number eqb c xs)
+
+  need-number : need number eqb c xs ≡ need terms eq c xs
+  need-number = sym (batches-number number eqb numbers-decide c xs h) ∙ ap length (sym bundle-number) ∙ batches-number terms eq d c xs h
+
+  pub need-by-number : needOf c (map number xs) ≡ need terms eq c xs
+  need-by-number = sym (need-map number c xs) ∙ need-number
+
+  pub batch-by-number : (n : ℕ) → n < need terms eq c xs → getD (bundle terms eq c xs) n [] ≡ pick n (labelsOf c (map number xs)) xs
+  batch-by-number n l = rw bundle-number (by-label number eqb numbers-decide c xs n h (subst (λ (m : ℕ). n < m) (sym need-number) l))
+
+  pub batches-by-number : bundle terms eq c xs ≡ map (λ n. pick n (labelsOf c (map number xs)) xs) (upTo (needOf c (map number xs)))
+  batches-by-number =
+      let n : length (bundle terms eq c xs) ≡ needOf c (map number xs) = batches-number terms eq d c xs h ∙ sym need-by-number in
+      tabled [] (λ n. pick n (labelsOf c (map number xs)) xs) 0 (bundle terms eq c xs)
+      (λ i l. batch-by-number i (omega (arith, batches-number terms eq d c xs h)) ∙ let z : i ≡ 0 + i = omega arith in ap (λ (j : ℕ). pick j (labelsOf c (map number xs)) xs) z)
+      ∙ ap (λ (k : ℕ). map (λ n. pick n (labelsOf c (map number xs)) xs) (upTo k)) n
+
+-- the code is such a number
 module _ {X K : Type 0} (terms : X → K) (eq : K → K → Bool) (d : Decides eq) (c : ℕ) (xs : List X) (h : 1 ≤ c) where
   abbrev code : X → ℕ
   code x = firstAt eq (terms x) (map terms xs)
 
-  bundle-code : bundle terms eq c xs ≡ bundle code eqb c xs
-  bundle-code = bundle-groups terms eq c xs
-      ∙ groups-agree (λ x. 1 ≤ count (eq (terms x)) (map terms xs)) (λ x y. eq (terms x) (terms y)) (λ x y. eqb (code x) (code y))
-      (λ x y a b. same-code eq d (terms x) (terms y) (map terms xs) a b) c xs (in-list terms eq d xs (map terms xs) (λ k. le-refl _))
-      ∙ sym (bundle-groups code eqb c xs)
+  abbrev Met : X → Type 0
+  Met x = 1 ≤ count (eq (terms x)) (map terms xs)
 
-  need-code : need code eqb c xs ≡ need terms eq c xs
-  need-code = sym (batches-number code eqb numbers-decide c xs h) ∙ ap length (sym bundle-code) ∙ batches-number terms eq d c xs h
+  coded : (x y : X) → Met x → Met y → eq (terms x) (terms y) ≡ eqb (code x) (code y)
+  coded x y a b = same-code eq d (terms x) (terms y) (map terms xs) a b
+
+  met : All Met xs
+  met = in-list terms eq d xs (map terms xs) (λ k. le-refl _)
 
   pub need-by-code : needOf c (codes terms eq xs) ≡ need terms eq c xs
-  need-by-code = sym (need-map code c xs) ∙ need-code
+  need-by-code = need-by-number terms eq d Met code coded c xs h met
 
   pub batch-by-code : (n : ℕ) → n < need terms eq c xs → getD (bundle terms eq c xs) n [] ≡ pick n (labelsOf c (codes terms eq xs)) xs
-  batch-by-code n l = rw bundle-code (by-label code eqb numbers-decide c xs n h (subst (λ (m : ℕ). n < m) (sym need-code) l))
+  batch-by-code = batch-by-number terms eq d Met code coded c xs h met

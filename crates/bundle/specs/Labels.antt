@@ -4,9 +4,10 @@
 --   sizeOf eq c ks k               how many batches the terms k need, where the collections have the terms ks
 --   labels eq c ks                 the label of each collection
 --   pick n ls xs                   those of xs that have the label n, in order, where ls are the labels
+--   upFrom k n, upTo n             the n numbers from k on, in order; those below n
 --   needOf c ts, labelsOf c ts     how many batches are needed, and the labels, where all that is known of the collections is their codes ts
 --   Marked c first k ts old new m  the collections of the code k among the first m have their labels, from the number `first` on; all else is as it was
-use Prim.Native.Nat.{ℕ, suc, _+_, _/_, _<_}
+use Prim.Native.Nat.{ℕ, zero, suc, _+_, _/_, _<_}
 use mathlib.Core.Bool.{Bool, true, false}
 use mathlib.Core.List.{List, [], _∷_, _++_, map}
 use mathlib.Core.Path.{_≡_}
@@ -52,6 +53,13 @@ abbrev pub pick : {X : Type 0} → ℕ → List ℕ → List X → List X
 pick n [] xs = []
 pick n (l ∷ ls) [] = []
 pick n (l ∷ ls) (x ∷ xs) = putIf (eqb n l) x (pick n ls xs)
+
+abbrev pub upFrom : ℕ → ℕ → List ℕ
+upFrom k zero = []
+upFrom k (suc n) = k ∷ upFrom (suc k) n
+
+abbrev pub upTo : ℕ → List ℕ
+upTo n = upFrom 0 n
 
 -- ─── by codes alone ───
 

@@ -1,5 +1,5 @@
 // The batches of a day list: how many are needed, and the number of each collection's batch. There is no heap: the caller lends the place for the numbers.
-// The terms of a collection come as a code, the place of the first collection with equal terms.
+// The terms of a collection come as a code, a number that is equal for two collections exactly where their terms are.
 ghost use Prim.Native.Nat.{_+_, _≤_};
 ghost use mathlib.Core.Path.{_≡_};
 ghost use lib.Dec.{eqb};

@@ -1,5 +1,6 @@
 -- WHAT A GOOD LIST IS, for whoever reads one that was judged good.
 --   must-good, next-good   where good comes out, the test held, the stage found no fault, and what was left to the rest is good
+--   of-good                and the line was good
 --   good-list              a good list of n collections is within the limits, has n + 1 lines, and neither 23 nor 26 finds a fault
 --   frames-each            then each line holds the frame of its kind, and LF ends it
 --   values-each            and each line's values are good
@@ -84,6 +85,10 @@ good-list s c n e =
     told : (a b : ℕ) → _≡_ {A = JudgedList} (Good a) (Good b) → a ≡ b
     told a b e = cc
 
+pub of-good : (j : Judged) (k n : ℕ) (r : JudgedList) → ofLine j k r ≡ Good n → (good j ≡ true) × (r ≡ Good n)
+of-good (Fine m) k n r e = (refl, e)
+of-good (Bad f) k n r e = let z : _≡_ {A = ℕ} 0 1 = cc in absurd (omega (arith, z))
+
 module _ (d : Line) where
   pub frames-each : (k n : ℕ) (ls : List Line) → framesFrom k ls ≡ Good n → (i : ℕ) → i < length ls → isFrame (frameOf (k + i + 1)) (getD ls i d) ≡ true
   frames-each k n [] e i h = absurd (not-suc-le-zero h)
@@ -93,10 +98,6 @@ module _ (d : Line) where
   frames-each k n (l ∷ ls) e (suc i) h =
       let z : k + suc i + 1 ≡ k + 1 + i + 1 = omega arith in
       rw z (frames-each (k + 1) n ls (must-good (isFrame (frameOf (k + 1)) l) (NotAFrame (k + 1)) (framesFrom (k + 1) ls) n e .1) i (le-of-suc-le-suc h))
-
-  of-good : (j : Judged) (k n : ℕ) (r : JudgedList) → ofLine j k r ≡ Good n → (good j ≡ true) × (r ≡ Good n)
-  of-good (Fine m) k n r e = (refl, e)
-  of-good (Bad f) k n r e = let z : _≡_ {A = ℕ} 0 1 = cc in absurd (omega (arith, z))
 
   pub values-each : (k n : ℕ) (ls : List Line) → valuesFrom k ls ≡ Good n → (i : ℕ) → i < length ls → good (judgedLine (k + i + 1) (unhex ((getD ls i d) .bytes))) ≡ true
   values-each k n [] e i h = absurd (not-suc-le-zero h)

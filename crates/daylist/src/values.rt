@@ -136,7 +136,7 @@ fn judge_in(line: &[u8], place: usize, field: Field, buffer: &mut [u8]) -> Judge
 }
 
 // The `size` bytes from a place on, judged as a field. A length byte is at most 255.
-fn judge_part(line: &[u8], place: usize, size: usize, field: Field) -> Judged
+pub fn judge_part(line: &[u8], place: usize, size: usize, field: Field) -> Judged
     requires { ⌜ (size ≤ 255) × (place + size ≤ length (unhex (now line))) ⌝ }
     ensures { λ r. ⌜ r ≡ judgedField field (take size (drop place (unhex (now (line .entry))))) ⌝ }
 {

@@ -1,2 +1,3 @@
--- Listed   what a day list says: its creditor and its collections
+-- Listed   what a day list says: its creditor and its collections      Good   good values
 pub mod Listed
+pub mod Good

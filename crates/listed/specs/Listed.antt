@@ -4,6 +4,7 @@
 --   collectionOf s, creditorOf s   from the bytes of such a line
 --   listed s, creditor s        the collections of the list s, and its creditor
 --   termsNumber k               the terms as one number: terms of real days are the same exactly where their numbers are (`same-number`)
+--   numbersOf s                 the number of each collection's terms
 use Prim.Native.Nat.{ℕ, _+_, _*_}
 use mathlib.Core.Bool.{Bool, _&&_}
 use mathlib.Core.List.{List, [], _∷_, map}
@@ -98,3 +99,6 @@ listed s = map (λ l. collectionOf (unhex (l .bytes))) (drop 1 (lines s))
 
 abbrev pub termsNumber : Terms → ℕ
 termsNumber k = (told (date (k .date)) * 2 + k .scheme) * 4 + k .sequence
+
+abbrev pub numbersOf : Bytes → List ℕ
+numbersOf s = map (λ x. termsNumber (x .terms)) (listed s)

@@ -1,0 +1,109 @@
+-- THE TERMS OF A LINE, byte by byte, and the lines of a list by their starts.
+--   date-none, date-there   the collection date of a line that is too short for one; of one that is not
+--   number-bytes            the number of a line's terms, from its bytes
+--   listed-number           there is a collection for each line but the first
+--   numbers-length          and a number for each; numbers-fit: as many as the table of starts has, but for one
+--   number-at               the number of collection i, from its line
+--   start-there, number-read   line i + 1 starts within the list; the number of what is read there
+--   starts-whole            a table with a place for each line holds the starts and nothing else
+use Prim.Native.Nat.{ℕ, zero, suc, _+_, _-_, _*_, _<_, _≤_, min}
+use native.Mathlib.Nat.{not-suc-le-zero, le-of-suc-le-suc}
+use native.Mathlib.Omega.{arith}
+use mathlib.Core.Bool.{false}
+use mathlib.Core.List.{List, [], _∷_, _++_, map}
+use mathlib.Core.Path.{_≡_, refl, ap, sym, _∙_}
+use lib.ListN.{length, take, drop, getD, length-map, length-drop, drop-of-length-le}
+use lib.Seq.{getD-drop, take-all}
+use Rattle.laws.specs.Bytes.{Bytes, span}
+use Rattle.laws.specs.Put.{putAt}
+use Rattle.laws.proofs.Loops.{drop-step}
+use Rattle.laws.proofs.Puts.{put-all}
+use Rattle.text.specs.Rules.{told, date}
+use Rattle.frames.specs.Lines.{Line, notEnd, lines, starts}
+use Rattle.frames.specs.Hex.{unhex}
+use Rattle.frames.specs.Frames.{texts}
+use Rattle.frames.proofs.Starts.{line-at, start-within, starts-number}
+use Rattle.daylist.proofs.Leads.{take-there}
+use Rattle.listed.specs.Listed.{Collection, collectionOf, termsNumber, listed, numbersOf}
+
+-- ─── a line, of which s are the bytes ───
+
+module _ (s : Bytes) where
+  pub date-none : length s ≤ 8 → told (date (collectionOf s .terms .date)) ≡ 0
+  date-none h = rw (drop-of-length-le s {i = 8} h)
+
+  pub date-there : (m : ℕ) → 8 < length s → m ≡ min (getD s 8 0) (length s - 9) → collectionOf s .terms .date ≡ take m (drop 9 s)
+  date-there m h e =
+      ap (λ (t : Bytes). getD (texts 8 t) 0 []) (drop-step s 8 h)
+      ∙ take-there (getD s 8 0) m (drop 9 s) (omega (arith, e, length-drop 9 s))
+
+  scheme-at : getD (take 7 (drop 1 s)) 0 0 ≡ getD s 1 0
+  scheme-at = go s
+    where
+      go : (s : Bytes) → getD (take 7 (drop 1 s)) 0 0 ≡ getD s 1 0
+      go [] = refl
+      go (a ∷ []) = refl
+      go (a ∷ b ∷ s) = refl
+
+  sequence-at : getD (take 7 (drop 1 s)) 1 0 ≡ getD s 2 0
+  sequence-at = go s
+    where
+      go : (s : Bytes) → getD (take 7 (drop 1 s)) 1 0 ≡ getD s 2 0
+      go [] = refl
+      go (a ∷ []) = refl
+      go (a ∷ b ∷ []) = refl
+      go (a ∷ b ∷ c ∷ s) = refl
+
+  pub number-bytes : (d k q : ℕ) → d ≡ told (date (collectionOf s .terms .date)) → k ≡ getD s 1 0 → q ≡ getD s 2 0 → (d * 2 + k) * 4 + q ≡ termsNumber (collectionOf s .terms)
+  number-bytes d k q a b c = rw (a, b, c, scheme-at, sequence-at)
+
+-- ─── the lines of a list ───
+
+map-at : {A B : Type 0} (f : A → B) (l : List A) (i : ℕ) (b : B) (a : A) → i < length l → getD (map f l) i b ≡ f (getD l i a)
+map-at f [] i b a h = absurd (not-suc-le-zero h)
+map-at f (x ∷ l) zero b a h = refl
+map-at f (x ∷ l) (suc i) b a h = map-at f l i b a (le-of-suc-le-suc h)
+
+none : Line
+none = record { bytes = []; ended = false }
+
+pub listed-number : (s : Bytes) → length (listed s) ≡ length (lines s) - 1
+listed-number s = length-map (drop 1 (lines s)) _ ∙ length-drop 1 (lines s)
+
+pub numbers-length : (s : Bytes) → length (numbersOf s) ≡ length (lines s) - 1
+numbers-length s = length-map (listed s) _ ∙ listed-number s
+
+-- the bytes from the start of a line up to the next LF
+abbrev pub lineFrom : Bytes → ℕ → Bytes
+lineFrom s a = take (span notEnd (drop a s)) (drop a s)
+
+pub number-at : (s : Bytes) (i : ℕ) → i + 1 < length (lines s)
+    → getD (numbersOf s) i 0 ≡ termsNumber (collectionOf (unhex (lineFrom s (getD (starts s) (i + 1) 0))) .terms)
+number-at s i h =
+    let n : 1 + i ≡ i + 1 = omega arith in
+    map-at (λ x. termsNumber (x .terms)) (listed s) i 0 (collectionOf (unhex [])) (omega (arith, listed-number s))
+    ∙ ap (λ (x : Collection). termsNumber (x .terms)) (map-at (λ (l : Line). collectionOf (unhex (l .bytes))) (drop 1 (lines s)) i (collectionOf (unhex [])) none (omega (arith, length-drop 1 (lines s))))
+    ∙ ap (λ (l : Line). termsNumber (collectionOf (unhex (l .bytes)) .terms)) (getD-drop 1 (lines s) i none ∙ ap (λ (k : ℕ). getD (lines s) k none) n)
+    ∙ ap (λ (b : Bytes). termsNumber (collectionOf (unhex b) .terms)) (sym (line-at none s (i + 1) h))
+
+-- ─── the table of starts ───
+
+pub numbers-fit : (s : Bytes) (t : List ℕ) (n : ℕ) → t ≡ starts s → n + 1 ≡ length t → n ≡ length (numbersOf s)
+numbers-fit s t n e h = omega (arith, ap length e, starts-number s, numbers-length s)
+
+-- t is the table of starts, and collection i stands in line i + 1, counted from 0
+module _ (s : Bytes) (t : List ℕ) (e : t ≡ starts s) (i : ℕ) (h : i + 1 < length t) where
+  line-there : i + 1 < length (lines s)
+  line-there = omega (arith, ap length e, starts-number s)
+
+  pub start-there : getD t (i + 1) 0 < length s
+  start-there = rw e (start-within none s (i + 1) line-there)
+
+  pub number-read : (n r : ℕ) → n ≡ span notEnd (drop (getD t (i + 1) 0) s)
+      → r ≡ termsNumber (collectionOf (unhex (take (getD t (i + 1) 0 + n - getD t (i + 1) 0) (drop (getD t (i + 1) 0) s))) .terms) → r ≡ getD (numbersOf s) i 0
+  number-read n r f g =
+      let k : getD t (i + 1) 0 + n - getD t (i + 1) 0 ≡ n = omega arith in
+      g ∙ rw (k, f, e) (sym (number-at s i line-there))
+
+pub starts-whole : (s : Bytes) (t : List ℕ) → length t ≡ length (lines s) → putAt t 0 (take (length t) (starts s)) ≡ starts s
+starts-whole s t h = rw (take-all (length t) (starts s) (omega (arith, starts-number s))) (put-all t (starts s) (omega (arith, starts-number s)))

@@ -1,0 +1,148 @@
+-- `listed::terms_numbers` meets its contract. The invariant: with the numbers of the collections from i on put behind those that are written, they are all that is promised.
+use Rattle.listed.proofs.Lines.{numbers-fit, start-there, number-read}
+use Rattle.listed.specs.Listed.{numbersOf}
+use Rattle.frames.specs.Lines.{notEnd}
+use Rattle.laws.proofs.Loops.{drop-part, span-le}
+use Rattle.laws.proofs.Puts.{put-nil, put-all, put-step}
+use Rattle.laws.specs.Put.{putAt}
+use Rattle.laws.specs.Bytes.{span}
+use lib.ListN.{length, drop, getD, set, length-set, length-drop, drop-of-length-le}
+use mathlib.Core.Path.{_≡_, refl, sym, _∙_, ap}
+use native.Mathlib.Omega.{arith}
+use Prim.Native.Nat.{ℕ, _+_, _-_, _<_, _≤_}
+use borrow.Author.Needs.{needs}
+use Rattle.listed.proofs.terms_numbers.Statement.{statement}
+use Rattle.listed.proofs.terms_numbers.Tie as tie
+
+abbrev Inv-loop : tie.InvT-loop
+Inv-loop list table numbers₀ i₀ numbers i =
+    (length numbers ≡ length numbers₀) × (i ≤ length numbers) × (putAt numbers i (drop i (numbersOf list)) ≡ numbersOf list)
+
+abbrev μ-loop : tie.MeasureT-loop
+μ-loop list table numbers₀ i₀ numbers i = length numbers - i
+
+-- the line of collection i starts within the list
+there : (c : tie.In-loop Inv-loop μ-loop) → getD (c .before .before .before .before .before .args .table .now) (c .before .loop .i + 1) 0 < length (c .before .before .before .before .before .args .list .now)
+there c =
+    let x = c .before .before .before .before .before .args in
+    let p = c .before .before .before .before .before .pre in
+    start-there (x .list .now) (x .table .now) (p .0) (c .before .loop .i) (omega (arith, p .1, c .before .loop .inv .0))
+
+-- how far its LF is
+length-is : (c : tie.After-line-length Inv-loop μ-loop) → c .line-length .result ≡ span notEnd (drop (getD (c .before .before .before .before .before .before .before .before .args .table .now) (c .before .before .before .before .loop .i + 1) 0) (c .before .before .before .before .before .before .before .before .args .list .now))
+length-is c =
+    let x = c .before .before .before .before .before .before .before .before .args in
+    c .line-length .ensures ∙ ap (span notEnd) (drop-part (getD (x .table .now) (c .before .before .before .before .loop .i + 1) 0) (x .list .now))
+
+-- it is no farther than the end
+within : (c : tie.After-line-length Inv-loop μ-loop) → getD (c .before .before .before .before .before .before .before .before .args .table .now) (c .before .before .before .before .loop .i + 1) 0 + c .line-length .result ≤ length (c .before .before .before .before .before .before .before .before .args .list .now)
+within c =
+    let x = c .before .before .before .before .before .before .before .before .args in
+    let at = getD (x .table .now) (c .before .before .before .before .loop .i + 1) 0 in
+    omega (arith, length-is c, there (c .before .before .before), span-le notEnd (drop at (x .list .now)), length-drop at (x .list .now))
+
+loop-holds : tie.Need-loop-holds Inv-loop μ-loop
+loop-holds c =
+    let x = c .before .before .before .args in
+    let p = c .before .before .before .pre in
+    (refl, omega arith, put-all (x .numbers .now) (numbersOf (x .list .now)) (numbers-fit (x .list .now) (x .table .now) (length (x .numbers .now)) (p .0) (p .1)))
+
+add-at : tie.Need-add-at Inv-loop μ-loop
+add-at c = search needs
+
+mul-at : tie.Need-mul-at Inv-loop μ-loop
+mul-at c = search needs
+
+shared-slice-read-at : tie.Need-shared-slice-read-at Inv-loop μ-loop
+shared-slice-read-at c = search needs
+
+sub-line-length : tie.Need-sub-line-length Inv-loop μ-loop
+sub-line-length c = omega (arith, there (c .before))
+
+part-line-length-start : tie.Need-part-line-length-start Inv-loop μ-loop
+part-line-length-start c = omega (arith, there (c .before))
+
+part-line-length-end : tie.Need-part-line-length-end Inv-loop μ-loop
+part-line-length-end c = search needs
+
+line-length-requires : tie.Need-line-length-requires Inv-loop μ-loop
+line-length-requires c κs = search needs
+
+add-end : tie.Need-add-end Inv-loop μ-loop
+add-end c = record { fits = omega (arith, within c) }
+
+sub-terms-number : tie.Need-sub-terms-number Inv-loop μ-loop
+sub-terms-number c = search needs
+
+part-terms-number-start : tie.Need-part-terms-number-start Inv-loop μ-loop
+part-terms-number-start c = search needs
+
+part-terms-number-end : tie.Need-part-terms-number-end Inv-loop μ-loop
+part-terms-number-end c = omega (arith, within c)
+
+terms-number-requires : tie.Need-terms-number-requires Inv-loop μ-loop
+terms-number-requires c κs = search needs
+
+mul-numbers : tie.Need-mul-numbers Inv-loop μ-loop
+mul-numbers c = search needs
+
+slice-write-numbers : tie.Need-slice-write-numbers Inv-loop μ-loop
+slice-write-numbers c = search needs
+
+add-i : tie.Need-add-i Inv-loop μ-loop
+add-i c = search needs
+
+loop-less : tie.Need-loop-less Inv-loop μ-loop
+loop-less c = simp length-set (omega arith)
+
+loop-again : tie.Need-loop-again Inv-loop μ-loop
+loop-again c =
+    let l = c .before .before .before .before .before .before .loop in
+    let x = c .before .before .before .before .before .before .before .before .before .before .args in
+    let p = c .before .before .before .before .before .before .before .before .before .before .pre in
+    let r = number-read (x .list .now) (x .table .now) (p .0) (l .i) (omega (arith, p .1, l .inv .0)) (c .before .before .line-length .result) (c .terms-number .result) (length-is (c .before .before)) (c .terms-number .ensures) in
+    let n : l .i < length (numbersOf (x .list .now)) = omega (arith, l .inv .0, numbers-fit (x .list .now) (x .table .now) (length (x .numbers .now)) (p .0) (p .1)) in (
+      simp length-set (l .inv .0),
+      simp length-set (omega arith),
+      ap (λ (v : ℕ). putAt (set (l .numbers) (l .i) v) (l .i + 1) (drop (l .i + 1) (numbersOf (x .list .now)))) r
+          ∙ put-step (l .numbers) (numbersOf (x .list .now)) (l .i) (l .i) n (omega arith)
+          ∙ l .inv .2,
+    )
+
+same-length : tie.Need-same-length Inv-loop μ-loop
+same-length c = search needs
+
+returns : tie.Need-returns Inv-loop μ-loop
+returns c =
+    let l = c .before .loop in
+    let x = c .before .before .before .before .before .args in
+    let p = c .before .before .before .before .before .pre in
+    let d = drop-of-length-le (numbersOf (x .list .now)) {i = l .i} (omega (arith, l .inv .0, numbers-fit (x .list .now) (x .table .now) (length (x .numbers .now)) (p .0) (p .1))) in
+    sym (put-nil (l .numbers) (l .i)) ∙ ap (putAt (l .numbers) (l .i)) (sym d) ∙ l .inv .2
+
+pub terms-numbers-spec : {M : Type 1} → statement M
+terms-numbers-spec =
+    tie.close
+    (tie.spec
+    Inv-loop
+    μ-loop
+    loop-holds
+    add-at
+    mul-at
+    shared-slice-read-at
+    sub-line-length
+    part-line-length-start
+    part-line-length-end
+    line-length-requires
+    add-end
+    sub-terms-number
+    part-terms-number-start
+    part-terms-number-end
+    terms-number-requires
+    mul-numbers
+    slice-write-numbers
+    add-i
+    loop-less
+    loop-again
+    same-length
+    returns)
