@@ -1,0 +1,68 @@
+-- THE MESSAGE THAT IS WRITTEN for one list, byte for byte: what the definitions compute.
+--   dayList                 a creditor and two collections of one terms: the first without a bank and with remittance, the second with a bank and without remittance
+--   together, one-by-one    at the ceiling 2 one batch of both, 1,743 bytes; at the ceiling 1 two batches of one each, 2,338 bytes
+use Prim.Native.String.{String}
+use mathlib.Core.Bool.{_&&_}
+use mathlib.Core.List.{[], _∷_, _++_}
+use lib.Dec.{T, eqb}
+use lib.ListN.{length}
+use Rattle.laws.specs.Bytes.{Bytes, ascii, same}
+use Rattle.laws.specs.Lists.{concat}
+use Rattle.put.specs.Numerals.{decimalOf}
+use Rattle.written.specs.Written.{written}
+
+-- ─── the list ───
+
+abbrev lineOf : String → Bytes
+lineOf s = ascii s ++ 10 ∷ []
+
+abbrev dayList : Bytes
+dayList =
+    concat (
+    lineOf "010B52554E2D323032362F303713323032362D31312D30325430393A33303A3030104C65616B204C616273204275726561750E4F274E65696C2054657374696E671042453638353339303037353437303334084242525542454242144245363930303030353044303030303030303038"
+    ∷ lineOf "020001000001ADB70A323032362D31312D3130054645452031074D2D35353535350A323030392D30392D3031000E4D72204465626974657572204E3116474232394E57424B36303136313333313932363831390A46616374757265204E31"
+    ∷ lineOf "02000100000347E00A323032362D31312D3130054645452032094D2D3636362F3636360A313938392D30372D30330842414E4B4742324C0E4D72204465626974657572204E32104245333030303132313633373134313100"
+    ∷ [])
+
+-- ─── the parts of the message ───
+
+abbrev opening : Bytes
+opening =
+    ascii "<?xml version=\"1.0\" encoding=\"UTF-8\"?><Document xmlns=\"urn:iso:std:iso:20022:tech:xsd:pain.008.001.08\"><CstmrDrctDbtInitn><GrpHdr><MsgId>RUN-2026/07</MsgId><CreDtTm>2026-11-02T09:30:00</CreDtTm><NbOfTxs>2</NbOfTxs><CtrlSum>3250.15</CtrlSum><InitgPty><Nm>Leak Labs Bureau</Nm></InitgPty></GrpHdr>"
+
+-- a batch up to its first transaction: its id, count and sum
+abbrev headOf : String → String → String → Bytes
+headOf id count sum =
+    concat (
+    ascii "<PmtInf><PmtInfId>"
+    ∷ ascii id
+    ∷ ascii "</PmtInfId><PmtMtd>DD</PmtMtd><BtchBookg>true</BtchBookg><NbOfTxs>"
+    ∷ ascii count
+    ∷ ascii "</NbOfTxs><CtrlSum>"
+    ∷ ascii sum
+    ∷ ascii "</CtrlSum><PmtTpInf><SvcLvl><Cd>SEPA</Cd></SvcLvl><LclInstrm><Cd>CORE</Cd></LclInstrm><SeqTp>RCUR</SeqTp></PmtTpInf><ReqdColltnDt>2026-11-10</ReqdColltnDt><Cdtr><Nm>O'Neil Testing</Nm></Cdtr><CdtrAcct><Id><IBAN>BE68539007547034</IBAN></Id></CdtrAcct><CdtrAgt><FinInstnId><BICFI>BBRUBEBB</BICFI></FinInstnId></CdtrAgt><ChrgBr>SLEV</ChrgBr><CdtrSchmeId><Id><PrvtId><Othr><Id>BE69000050D000000008</Id><SchmeNm><Prtry>SEPA</Prtry></SchmeNm></Othr></PrvtId></Id></CdtrSchmeId>"
+    ∷ [])
+
+abbrev transaction-1 : Bytes
+transaction-1 =
+    ascii "<DrctDbtTxInf><PmtId><EndToEndId>FEE 1</EndToEndId></PmtId><InstdAmt Ccy=\"EUR\">1100.07</InstdAmt><DrctDbtTx><MndtRltdInf><MndtId>M-55555</MndtId><DtOfSgntr>2009-09-01</DtOfSgntr></MndtRltdInf></DrctDbtTx><DbtrAgt><FinInstnId><Othr><Id>NOTPROVIDED</Id></Othr></FinInstnId></DbtrAgt><Dbtr><Nm>Mr Debiteur N1</Nm></Dbtr><DbtrAcct><Id><IBAN>GB29NWBK60161331926819</IBAN></Id></DbtrAcct><RmtInf><Ustrd>Facture N1</Ustrd></RmtInf></DrctDbtTxInf>"
+
+abbrev transaction-2 : Bytes
+transaction-2 =
+    ascii "<DrctDbtTxInf><PmtId><EndToEndId>FEE 2</EndToEndId></PmtId><InstdAmt Ccy=\"EUR\">2150.08</InstdAmt><DrctDbtTx><MndtRltdInf><MndtId>M-666/666</MndtId><DtOfSgntr>1989-07-03</DtOfSgntr></MndtRltdInf></DrctDbtTx><DbtrAgt><FinInstnId><BICFI>BANKGB2L</BICFI></FinInstnId></DbtrAgt><Dbtr><Nm>Mr Debiteur N2</Nm></Dbtr><DbtrAcct><Id><IBAN>BE30001216371411</IBAN></Id></DbtrAcct></DrctDbtTxInf>"
+
+abbrev batchEnd : Bytes
+batchEnd = ascii "</PmtInf>"
+
+abbrev ending : Bytes
+ending = ascii "</CstmrDrctDbtInitn></Document>"
+
+-- ─── the message ───
+
+together : T (same (written dayList 2) (concat (opening ∷ headOf "B001" "2" "3250.15" ∷ transaction-1 ∷ transaction-2 ∷ batchEnd ∷ ending ∷ [])) && eqb (length (written dayList 2)) 1743)
+unfolding written decimalOf
+together = tt
+
+one-by-one : T (same (written dayList 1) (concat (opening ∷ headOf "B001" "1" "1100.07" ∷ transaction-1 ∷ batchEnd ∷ headOf "B002" "1" "2150.08" ∷ transaction-2 ∷ batchEnd ∷ ending ∷ [])) && eqb (length (written dayList 1)) 2338)
+unfolding written decimalOf
+one-by-one = tt
