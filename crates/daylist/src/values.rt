@@ -23,7 +23,7 @@ fn wide(c: u8) -> u64
 }
 
 // The number that the `count` bytes from `from` on are, high first.
-fn high_first(line: &[u8], from: usize, count: usize) -> u64
+pub fn high_first(line: &[u8], from: usize, count: usize) -> u64
     requires { ⌜ (from ≤ 255) × (count ≤ 7) ⌝ }
     ensures { λ r. ⌜ r ≡ highFirst (take count (drop from (unhex (now (line .entry))))) ⌝ }
 {

@@ -1,0 +1,48 @@
+-- WHAT THE WRITERS OF A MESSAGE ASK of the list, its table of starts and its labels. Not to be believed: a list that is judged good, with its table and labels, has it all (`ready`).
+--   lineFrom s a, collectionAt s a   the line that starts at a; the collection that it holds
+--   Ready s table labels             each collection of the list s is found by the table, and has a label
+--   Batch .. k, Batches .. m         a collection has the label k; for each label below m one has it
+--   batchesFrom k m labels xs        m batches from number k on: each the collections of xs that have its label
+use Prim.Native.Nat.{ℕ, _+_, _≤_, _<_}
+use mathlib.Core.Bool.{true}
+use mathlib.Core.List.{List, map}
+use mathlib.Core.Path.{_≡_}
+use lib.Dec.{eqb}
+use lib.ListN.{length, take, drop, getD}
+use Rattle.laws.specs.Bytes.{Bytes, span}
+use Rattle.laws.specs.Lists.{count}
+use Rattle.profile.specs.Limits.{mostBatches, mostCollections, mostCents}
+use Rattle.frames.specs.Lines.{notEnd}
+use Rattle.frames.specs.Hex.{unhex}
+use Rattle.frames.specs.Frames.{framed, collection}
+use Rattle.bundle.specs.Labels.{pick, upFrom}
+use Rattle.listed.specs.Listed.{Collection, collectionOf, listed}
+use Rattle.written.specs.Written.{noCollection}
+
+abbrev pub lineFrom : Bytes → ℕ → Bytes
+lineFrom s a = take (span notEnd (drop a s)) (drop a s)
+
+abbrev pub collectionAt : Bytes → ℕ → Collection
+collectionAt s a = collectionOf (unhex (lineFrom s a))
+
+pub record Ready (s : Bytes) (table labels : List ℕ) : Type 0 where
+  pub few : length labels ≤ mostCollections
+  pub size : length table ≡ length labels + 1
+  pub count : length (listed s) ≡ length labels
+  pub inside : (i : ℕ) → i < length labels → getD table (i + 1) 0 ≤ length s
+  pub frame : (i : ℕ) → i < length labels → framed collection (unhex (lineFrom s (getD table (i + 1) 0))) ≡ true
+  pub is : (i : ℕ) → i < length labels → collectionAt s (getD table (i + 1) 0) ≡ getD (listed s) i noCollection
+  pub cents : (i : ℕ) → i < length labels → (getD (listed s) i noCollection) .cents ≤ mostCents
+
+pub record Batch (s : Bytes) (table labels : List ℕ) (k : ℕ) : Type 0 where
+  pub ready : Ready s table labels
+  pub some : 1 ≤ count (eqb k) labels
+  pub under : k < mostBatches
+
+pub record Batches (s : Bytes) (table labels : List ℕ) (m : ℕ) : Type 0 where
+  pub ready : Ready s table labels
+  pub some : (k : ℕ) → k < m → 1 ≤ count (eqb k) labels
+  pub most : m ≤ mostBatches
+
+abbrev pub batchesFrom : {X : Type 0} → ℕ → ℕ → List ℕ → List X → List (List X)
+batchesFrom k m labels xs = map (λ j. pick j labels xs) (upFrom k m)

@@ -1,0 +1,24 @@
+-- `pieces::head::put_id` meets its contract.
+use Rattle.put.proofs.Writes.{wrote-then}
+use borrow.Author.Needs.{needs}
+use Rattle.pieces.proofs.head.put_id.Statement.{statement}
+use Rattle.pieces.proofs.head.put_id.Tie as tie
+
+slice-aggregate-put : tie.Need-slice-aggregate-put
+slice-aggregate-put c = search needs
+
+put-requires : tie.Need-put-requires
+put-requires c κs = search needs
+
+put-batch-id-requires : tie.Need-put-batch-id-requires
+put-batch-id-requires c κs = search needs
+
+same-length : tie.Need-same-length
+same-length c = search needs
+
+returns : tie.Need-returns
+returns c = wrote-then _ _ (c .before .before .before .before .before .before .put .ensures) (c .before .before .put-batch-id .ensures)
+
+pub put-id-spec : {M : Type 1} → statement M
+put-id-spec =
+    tie.close (tie.spec slice-aggregate-put put-requires put-batch-id-requires same-length returns)

@@ -1,0 +1,62 @@
+-- `pieces::transaction::put_debtor` meets its contract.
+use Rattle.put.proofs.Writes.{wrote-then}
+use native.Mathlib.Omega.{arith}
+use borrow.Author.Needs.{needs}
+use Rattle.pieces.proofs.transaction.put_debtor.Statement.{statement}
+use Rattle.pieces.proofs.transaction.put_debtor.Tie as tie
+
+put-bank-requires : tie.Need-put-bank-requires
+put-bank-requires c κs = search needs
+
+slice-aggregate-put-behind : tie.Need-slice-aggregate-put-behind
+slice-aggregate-put-behind c = search needs
+
+put-behind-requires : tie.Need-put-behind-requires
+put-behind-requires c κs = search needs
+
+slice-aggregate-put-behind-2 : tie.Need-slice-aggregate-put-behind-2
+slice-aggregate-put-behind-2 c = search needs
+
+put-behind-requires-2 : tie.Need-put-behind-requires-2
+put-behind-requires-2 c κs = search needs
+
+slice-aggregate-put : tie.Need-slice-aggregate-put
+slice-aggregate-put c = search needs
+
+put-requires : tie.Need-put-requires
+put-requires c κs = search needs
+
+put-remittance-requires : tie.Need-put-remittance-requires
+put-remittance-requires c κs = search needs
+
+slice-aggregate-put-2 : tie.Need-slice-aggregate-put-2
+slice-aggregate-put-2 c = search needs
+
+put-requires-2 : tie.Need-put-requires-2
+put-requires-2 c κs = omega (arith, c .before .before .before .before .put-remittance .ensures .1, c .before .before .before .before .before .before .before .before .put .ensures .end, c .before .before .before .before .before .before .before .before .before .before .before .before .before .put-behind2 .ensures .1, c .before .before .before .before .before .before .before .before .before .before .before .before .before .before .before .before .before .before .put-behind .ensures .1, c .before .before .before .before .before .before .before .before .before .before .before .before .before .before .before .before .before .before .before .before .before .before .before .put-bank .ensures .1, c .before .before .before .before .before .before .before .before .before .before .before .before .before .before .before .before .before .before .before .before .before .before .before .before .before .before .before .pre .1)
+
+same-length : tie.Need-same-length
+same-length c = search needs
+
+returns : tie.Need-returns
+returns c = (
+  (wrote-then _ _ (c .before .before .before .before .before .before .before .before .before .before .before .before .before .before .before .before .before .before .before .before .before .before .before .before .before .before .put-bank .ensures .0) (wrote-then _ _ (c .before .before .before .before .before .before .before .before .before .before .before .before .before .before .before .before .before .before .before .before .before .put-behind .ensures .0) (wrote-then _ _ (c .before .before .before .before .before .before .before .before .before .before .before .before .before .before .before .before .put-behind2 .ensures .0) (wrote-then _ _ (c .before .before .before .before .before .before .before .before .before .before .before .put .ensures) (wrote-then _ _ (c .before .before .before .before .before .before .before .put-remittance .ensures .0) (c .before .before .put2 .ensures)))))),
+  omega (arith, c .before .before .put2 .ensures .end, c .before .before .before .before .before .before .before .put-remittance .ensures .1, c .before .before .before .before .before .before .before .before .before .before .before .put .ensures .end, c .before .before .before .before .before .before .before .before .before .before .before .before .before .before .before .before .put-behind2 .ensures .1, c .before .before .before .before .before .before .before .before .before .before .before .before .before .before .before .before .before .before .before .before .before .put-behind .ensures .1, c .before .before .before .before .before .before .before .before .before .before .before .before .before .before .before .before .before .before .before .before .before .before .before .before .before .before .put-bank .ensures .1),
+)
+
+pub put-debtor-spec : {M : Type 1} → statement M
+put-debtor-spec =
+    tie.close
+    (tie.spec
+    put-bank-requires
+    slice-aggregate-put-behind
+    put-behind-requires
+    slice-aggregate-put-behind-2
+    put-behind-requires-2
+    slice-aggregate-put
+    put-requires
+    put-remittance-requires
+    slice-aggregate-put-2
+    put-requires-2
+    same-length
+    returns)
