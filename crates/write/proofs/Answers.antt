@@ -1,0 +1,77 @@
+-- THE ANSWER AND THE OUTPUT, case by case.
+--   Answered s c out r out′     r is the answer, and out′ the output afterwards
+--   answered-bad                the list is refused
+--   answered-many               too many batches are needed
+--   answered-good               else it is a matter of room
+--   fitted-short, fitted-room   no room for the message; room
+--   front-none                  the run without room leaves the output as it was
+use Prim.Native.Nat.{ℕ, _≤_, _<_}
+use native.Mathlib.Omega.{arith}
+use mathlib.Core.List.{[], _∷_, _++_}
+use mathlib.Core.Path.{_≡_, refl, sym, ap, _∙_}
+use lib.ListN.{length, drop}
+use borrow.Author.Tests.{le-leb, lt-leb}
+use Rattle.laws.specs.Bytes.{Bytes}
+use Rattle.profile.specs.Limits.{mostBatches}
+use Rattle.profile.specs.declared.ListRefusal.{ListRefusal}
+use Rattle.profile.specs.declared.ListRefusal.the-variants.{TooManyBatches, OutputTooShort}
+use Rattle.daylist.specs.declared.JudgedList.the-variants.{Good, Refused as Bad}
+use Rattle.daylist.specs.Stages.{judgedList}
+use Rattle.written.specs.Written.{written}
+use Rattle.write.specs.declared.Written.{Written}
+use Rattle.write.specs.declared.Written.the-variants.{Length, Refused}
+use Rattle.write.specs.Write.{needed, fitted, bundled, after, answerFor, outputFor}
+
+abbrev pub Answered : Bytes → ℕ → Bytes → Written → Bytes → Type 0
+Answered s c out r out′ = (r ≡ answerFor s c (length out)) × (out′ ≡ outputFor s c out)
+
+-- ─── 27 and 28 ───
+
+few : (n : ℕ) (w : Written) → n ≤ mostBatches → bundled n w ≡ w
+few n w h = rw (le-leb n mostBatches h, bundled)
+
+many : (n : ℕ) (w : Written) → mostBatches < n → bundled n w ≡ Refused (TooManyBatches n)
+many n w h = rw (lt-leb n mostBatches h, bundled)
+
+module _ (m : Bytes) (room n : ℕ) (e : n ≡ length m) where
+  pub fitted-short : room < n → Refused (OutputTooShort n) ≡ fitted m room
+  fitted-short h = rw e (sym (rw (lt-leb (length m) room (omega arith), fitted)))
+
+  pub fitted-room : n ≤ room → Length n ≡ fitted m room
+  fitted-room h = rw e (sym (rw (le-leb (length m) room (omega arith), fitted)))
+
+-- what comes back of a part of no bytes that was lent
+pub front-none : (out ys : Bytes) → length ys ≡ 0 → ys ++ drop 0 out ≡ out
+front-none out [] h = refl
+front-none out (y ∷ ys) h = absurd (omega arith)
+
+-- ─── the whole ───
+
+-- the output is as the answer says
+answered : (s : Bytes) (c : ℕ) (out : Bytes) (r : Written) (out′ : Bytes) → r ≡ answerFor s c (length out) → out′ ≡ after r (written s c) out → Answered s c out r out′
+unfolding outputFor
+answered s c out r out′ a b = (a, b ∙ ap (λ (w : Written). after w (written s c) out) a)
+
+answer-bad : (s : Bytes) (c room : ℕ) (r : ListRefusal) → judgedList s c ≡ Bad r → answerFor s c room ≡ Refused r
+unfolding answerFor
+answer-bad s c room r e = rw e
+
+answer-good : (s : Bytes) (c room n : ℕ) → judgedList s c ≡ Good n → answerFor s c room ≡ bundled (needed s c) (fitted (written s c) room)
+unfolding answerFor
+answer-good s c room n e = rw e
+
+module _ (s : Bytes) (c : ℕ) (out : Bytes) where
+  pub answered-bad : (r : ListRefusal) → judgedList s c ≡ Bad r → Answered s c out (Refused r) out
+  answered-bad r e = answered s c out (Refused r) out (sym (answer-bad s c (length out) r e)) refl
+
+  module _ (n : ℕ) (e : judgedList s c ≡ Good n) where
+    pub answered-many : (m : ℕ) → m ≡ needed s c → mostBatches < m → Answered s c out (Refused (TooManyBatches m)) out
+    answered-many m d h =
+        answered s c out (Refused (TooManyBatches m)) out
+        (rw d (sym (answer-good s c (length out) n e ∙ many (needed s c) (fitted (written s c) (length out)) (omega arith)))) refl
+
+    pub answered-good : (m : Bytes) (r : Written) (out′ : Bytes) → m ≡ written s c → needed s c ≤ mostBatches → r ≡ fitted m (length out) → out′ ≡ after r m out → Answered s c out r out′
+    answered-good m r out′ d h a b =
+        answered s c out r out′
+        (a ∙ ap (λ (w : Bytes). fitted w (length out)) d ∙ sym (answer-good s c (length out) n e ∙ few (needed s c) (fitted (written s c) (length out)) h))
+        (b ∙ ap (λ (w : Bytes). after r w out) d)

@@ -1,0 +1,2 @@
+-- Write   what the writer answers and leaves in the output
+pub mod Write

@@ -1,0 +1,97 @@
+// The writer: the message that document 01 fixes for a day list and a ceiling.
+//
+//   message   the message of a list whose collections have their labels
+ghost use mathlib.Core.Path.{_≡_};
+ghost use mathlib.Core.Bool.{true};
+ghost use Prim.Native.Nat.{_+_};
+ghost use lib.ListN.{length};
+ghost use Rattle.frames.specs.Hex.{unhex};
+ghost use Rattle.frames.specs.Frames.{framed, creditor};
+ghost use Rattle.daylist.specs.Stages.{judgedList};
+ghost use Rattle.daylist.specs.declared.JudgedList.the-variants.{Good};
+ghost use Rattle.listed.specs.Listed.{listed, creditorOf};
+ghost use Rattle.written.specs.Pieces.{messageBytes};
+ghost use Rattle.batched.specs.Ready.{Batches, batchesFrom};
+ghost use Rattle.write.specs.Write.{fitted, after, answerFor, outputFor};
+use daylist::JudgedList;
+use profile::ListRefusal;
+
+pub mod message;
+
+// What comes of writing: the length of the message, or why there is none.
+pub enum Written {
+    Length(usize),
+    Refused(profile::ListRefusal),
+}
+
+// The message of a list whose collections have their labels, `line` being the creditor's. Where there is no room for it nothing is written.
+fn write_labelled(
+    line: &[u8],
+    list: &[u8],
+    table: &[usize],
+    labels: &[u64],
+    batches: u64,
+    out: &mut [u8],
+) -> Written
+    requires { ⌜ framed creditor (unhex (now line)) ≡ true ⌝ }
+    requires { ⌜ Batches (now list) (now table) (now labels) batches ⌝ }
+    ensures { λ r. ⌜ r ≡ fitted (messageBytes (creditorOf (unhex (now (line .entry)))) (batchesFrom 0 batches (now (labels .entry)) (listed (now (list .entry))))) (length (now (out .entry))) ⌝ }
+    ensures { λ r. ⌜ now (out .exit) ≡ after r (messageBytes (creditorOf (unhex (now (line .entry)))) (batchesFrom 0 batches (now (labels .entry)) (listed (now (list .entry))))) (now (out .entry)) ⌝ }
+{
+    let length = message::put_message(&mut out[..0], line, list, table, labels, batches);
+    if out.len() < length {
+        return Written::Refused(ListRefusal::OutputTooShort(length));
+    }
+    message::put_message(out, line, list, table, labels, batches);
+    Written::Length(length)
+}
+
+// The message of a list that is judged good, with a place for the starts of its lines and for the labels of its collections.
+fn write_in(
+    list: &[u8],
+    ceiling: u64,
+    table: &mut [usize],
+    labels: &mut [u64],
+    out: &mut [u8],
+) -> Written
+    requires { ⌜ judgedList (now list) ceiling ≡ Good (length (now labels)) ⌝ }
+    requires { ⌜ length (now table) ≡ length (now labels) + 1 ⌝ }
+    ensures { λ r. ⌜ r ≡ answerFor (now (list .entry)) ceiling (length (now (out .entry))) ⌝ }
+    ensures { λ _. ⌜ now (out .exit) ≡ outputFor (now (list .entry)) ceiling (now (out .entry)) ⌝ }
+{
+    let batches = listed::label(list, ceiling, table, labels);
+    if profile::Profile::BATCHES < batches {
+        return Written::Refused(ListRefusal::TooManyBatches(batches as usize));
+    }
+    let end = frames::lines::line_length(list);
+    write_labelled(&list[..end], list, table, labels, batches, out)
+}
+
+// The message of a list of so many collections that is judged good.
+fn write_good(list: &[u8], ceiling: u64, collections: usize, out: &mut [u8]) -> Written
+    requires { ⌜ judgedList (now list) ceiling ≡ Good collections ⌝ }
+    ensures { λ r. ⌜ r ≡ answerFor (now (list .entry)) ceiling (length (now (out .entry))) ⌝ }
+    ensures { λ _. ⌜ now (out .exit) ≡ outputFor (now (list .entry)) ceiling (now (out .entry)) ⌝ }
+{
+    let mut table = [0usize; 1001];
+    let mut labels = [0u64; 1000];
+    write_in(
+        list,
+        ceiling,
+        &mut table[..collections + 1],
+        &mut labels[..collections],
+        out,
+    )
+}
+
+// Writes the message for the list at the ceiling, and answers its length; or refuses, with the first of 21 to 28 that is met, and writes no byte.
+// Bytes of the output beyond the message stay.
+pub fn write(list: &[u8], ceiling: u64, out: &mut [u8]) -> Written
+    ensures { λ r. ⌜ r ≡ answerFor (now (list .entry)) ceiling (length (now (out .entry))) ⌝ }
+    ensures { λ _. ⌜ now (out .exit) ≡ outputFor (now (list .entry)) ceiling (now (out .entry)) ⌝ }
+{
+    match daylist::judge_list(list, ceiling) {
+        JudgedList::Good(collections) => write_good(list, ceiling, collections, out),
+        JudgedList::Refused(refusal) => Written::Refused(refusal),
+    }
+}

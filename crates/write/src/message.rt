@@ -1,0 +1,88 @@
+// The message of a list whose collections have their labels.
+ghost use mathlib.Core.Path.{_≡_};
+ghost use mathlib.Core.Bool.{true};
+ghost use Prim.Native.Nat.{_+_, _*_, _≤_, _<_, _^_};
+ghost use lib.Dec.{eqb};
+ghost use lib.ListN.{length};
+ghost use Rattle.bundle.specs.Labels.{pick, upTo};
+ghost use Rattle.laws.specs.Lists.{total, count};
+ghost use Rattle.frames.specs.Hex.{unhex};
+ghost use Rattle.frames.specs.Frames.{framed, creditor};
+ghost use Rattle.put.specs.Wrote.{Wrote};
+ghost use Rattle.listed.specs.Listed.{listed, creditorOf};
+ghost use Rattle.written.specs.Pieces.{batchesBytes, messageBytes};
+ghost use Rattle.batched.specs.Ready.{Ready, Batches, batchesFrom};
+
+// How many collections the batches have.
+fn count_all(labels: &[u64], batches: u64) -> u64
+    requires { ⌜ (length (now labels) ≤ 1000) × (batches ≤ 64) ⌝ }
+    ensures { λ r. ⌜ r ≡ total (λ k. count (eqb k) (now (labels .entry))) (upTo batches) ⌝ }
+{
+    let mut sum: u64 = 0;
+    let mut k = 0;
+    while k < batches {
+        sum += batched::count_of(labels, k);
+        k += 1;
+    }
+    sum
+}
+
+// Their cents.
+fn cents_all(list: &[u8], table: &[usize], labels: &[u64], batches: u64) -> u64
+    requires { ⌜ Ready (now list) (now table) (now labels) ⌝ }
+    requires { ⌜ batches ≤ 64 ⌝ }
+    ensures { λ r. ⌜ r ≡ total (λ k. total (λ x. x .cents) (pick k (now (labels .entry)) (listed (now (list .entry))))) (upTo batches) ⌝ }
+{
+    let mut sum: u64 = 0;
+    let mut k = 0;
+    while k < batches {
+        sum += batched::cents_of(list, table, labels, k);
+        k += 1;
+    }
+    sum
+}
+
+// The batches.
+fn put_batches(
+    out: &mut [u8],
+    at: usize,
+    line: &[u8],
+    list: &[u8],
+    table: &[usize],
+    labels: &[u64],
+    batches: u64,
+) -> usize
+    requires { ⌜ framed creditor (unhex (now line)) ≡ true ⌝ }
+    requires { ⌜ Batches (now list) (now table) (now labels) batches ⌝ }
+    requires { ⌜ at + 2303000 * 64 < 2 ^ 32 ⌝ }
+    ensures { λ r. ⌜ Wrote (now (out .entry)) (now (out .exit)) at r (batchesBytes (creditorOf (unhex (now (line .entry)))) 1 (batchesFrom 0 batches (now (labels .entry)) (listed (now (list .entry))))) ⌝ }
+    ensures { λ r. ⌜ r ≤ at + 2303000 * 64 ⌝ }
+{
+    let mut to = at;
+    let mut k = 0;
+    while k < batches {
+        to = batched::put_batch(out, to, line, list, table, labels, k);
+        k += 1;
+    }
+    to
+}
+
+// The message, `line` being the creditor's.
+pub fn put_message(
+    out: &mut [u8],
+    line: &[u8],
+    list: &[u8],
+    table: &[usize],
+    labels: &[u64],
+    batches: u64,
+) -> usize
+    requires { ⌜ framed creditor (unhex (now line)) ≡ true ⌝ }
+    requires { ⌜ Batches (now list) (now table) (now labels) batches ⌝ }
+    ensures { λ r. ⌜ Wrote (now (out .entry)) (now (out .exit)) 0 r (messageBytes (creditorOf (unhex (now (line .entry)))) (batchesFrom 0 batches (now (labels .entry)) (listed (now (list .entry))))) ⌝ }
+{
+    let count = count_all(labels, batches);
+    let cents = cents_all(list, table, labels, batches);
+    let opening = pieces::head::put_opening(out, 0, line, count, cents);
+    let closing = put_batches(out, opening, line, list, table, labels, batches);
+    put::put(out, closing, b"</CstmrDrctDbtInitn></Document>")
+}
