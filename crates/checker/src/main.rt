@@ -5,7 +5,7 @@ fn main() {
     let mut message = [0u8; 65537];
     let n = io::read_full(STDIN_FILENO, &mut message);
     if 65536 < n {
-        report::print(b"TOO LONG\n");
+        prints::print(b"TOO LONG\n");
         return;
     }
     report::print_check(&message[..n]);

@@ -10,8 +10,8 @@ fn print_file(path: &[u8]) -> bool {
     let mut message = [0u8; 16384];
     let n = io::read_full(fd, &mut message);
     libc::close(fd);
-    report::print(path);
-    report::print(b": ");
+    prints::print(path);
+    prints::print(b": ");
     report::print_check(&message[..n]);
     true
 }

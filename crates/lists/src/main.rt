@@ -7,18 +7,10 @@ ghost use lib.ListN.{length};
 ghost use Rattle.daylist.specs.declared.JudgedList.the-variants.{Good};
 ghost use Rattle.daylist.specs.Stages.{judgedList};
 use daylist::JudgedList;
-use libc::STDOUT_FILENO;
+use prints::print;
+use prints::print_number;
+use prints::print_refused;
 use profile::ListRefusal;
-
-fn print(text: &[u8]) {
-    io::write_all(STDOUT_FILENO, text);
-}
-
-// A number, behind a space.
-fn print_number(n: u64) {
-    print(b" ");
-    io::print_decimal(STDOUT_FILENO, n);
-}
 
 // ─── a list ───
 
@@ -74,10 +66,7 @@ fn print_good(list: &[u8], ceiling: u64, collections: usize)
 }
 
 fn print_refusal(refusal: ListRefusal) {
-    print(b"NO");
-    print_number(refusal.number());
-    print_number(refusal.place() as u64);
-    print(b"\n");
+    print_refused(refusal.number(), refusal.place() as u64);
 }
 
 fn print_list(list: &[u8], ceiling: u64) {

@@ -2,19 +2,11 @@
 ghost use mathlib.Core.Path.{_≡_};
 ghost use lib.ListN.{length};
 use answer::Checked;
-use libc::STDOUT_FILENO;
+use prints::print;
+use prints::print_number;
+use prints::print_refused;
 use profile::Refusal;
 use profile::Totals;
-
-pub fn print(text: &[u8]) {
-    io::write_all(STDOUT_FILENO, text);
-}
-
-// A number, behind a space.
-pub fn print_number(n: u64) {
-    print(b" ");
-    io::print_decimal(STDOUT_FILENO, n);
-}
 
 // What is declared, or `-` where it is absent.
 fn print_declared(mark: u64, n: u64) {
@@ -53,10 +45,7 @@ fn print_batches(batches: u64, rows: &[u64]) {
 }
 
 fn print_refusal(refusal: Refusal) {
-    print(b"NO");
-    print_number(refusal.number());
-    print_number(refusal.place() as u64);
-    print(b"\n");
+    print_refused(refusal.number(), refusal.place() as u64);
 }
 
 fn print_totals(totals: Totals) {

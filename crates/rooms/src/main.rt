@@ -6,10 +6,10 @@ use libc::STDIN_FILENO;
 fn print_table(table: &[u64]) {
     let mut i = 0;
     while i < table.len() {
-        report::print_number(table[i]);
+        prints::print_number(table[i]);
         i += 1;
     }
-    report::print(b"\n");
+    prints::print(b"\n");
 }
 
 // The check with so many numbers of each table lent.

@@ -4,19 +4,10 @@
 //   TOO LONG          the list or its message has more than 65,536 bytes
 ghost use Prim.Native.Nat.{_<_};
 use libc::STDIN_FILENO;
-use libc::STDOUT_FILENO;
+use prints::print;
+use prints::print_refused;
 use profile::ListRefusal;
 use write::Written;
-
-fn print(text: &[u8]) {
-    io::write_all(STDOUT_FILENO, text);
-}
-
-// A number, behind a space.
-fn print_number(n: u64) {
-    print(b" ");
-    io::print_decimal(STDOUT_FILENO, n);
-}
 
 // ─── the message ───
 
@@ -27,10 +18,7 @@ fn print_refusal(refusal: ListRefusal) {
         print(b"TOO LONG\n");
         return;
     }
-    print(b"NO");
-    print_number(number);
-    print_number(refusal.place() as u64);
-    print(b"\n");
+    print_refused(number, refusal.place() as u64);
 }
 
 fn print_front(out: &[u8], length: usize) {

@@ -6,8 +6,8 @@ use Rattle.rooms.proofs.print_table.Statement.{statement}
 use Rattle.rooms.proofs.print_table.Tie as tie
 use Rattle.rooms.proofs.print_table.Reads as reads
 use Rattle.rooms.proofs.print_table.Lts as lts
-use Rattle.report.proofs.print.Reads as print-reads
-use Rattle.report.proofs.print_number.Reads as print-number-reads
+use Rattle.prints.proofs.print.Reads as print-reads
+use Rattle.prints.proofs.print_number.Reads as print-number-reads
 
 abbrev Inv-loop : tie.InvT-loop
 Inv-loop table i₀ t3 i = i ≤ length table

@@ -7,7 +7,7 @@ use Rattle.writer.proofs.print_front.Statement.{statement}
 use Rattle.writer.proofs.print_front.Tie as tie
 use Rattle.writer.proofs.print_front.Reads as reads
 use Rattle.writer.proofs.print_front.Lts as lts
-use Rattle.writer.proofs.print.Reads as print-reads
+use Rattle.prints.proofs.print.Reads as print-reads
 
 -- src/main.rt:38:9
 returns : tie.Need-returns
