@@ -7,8 +7,7 @@ use mathlib.Core.Path.{_≡_, ap, _∙_}
 use lib.ListN.{length, take, drop, length-drop}
 use Rattle.laws.specs.Bytes.{Bytes, span}
 use Rattle.laws.proofs.Loops.{drop-part, span-le}
-use Rattle.frames.specs.Lines.{notEnd}
-use Rattle.batched.specs.Ready.{lineFrom}
+use Rattle.frames.specs.Lines.{notEnd, lineFrom}
 
 module _ (s : Bytes) (a n : ℕ) (e : n ≡ span notEnd (take (length s - a) (drop a s))) where
   far : n ≡ span notEnd (drop a s)

@@ -1,5 +1,5 @@
 -- WHAT THE WRITERS OF A MESSAGE ASK of the list, its table of starts and its labels. Not to be believed: a list that is judged good, with its table and labels, has it all (`ready`).
---   lineFrom s a, collectionAt s a   the line that starts at a; the collection that it holds
+--   collectionAt s a                 the collection that the line from a on holds
 --   Ready s table labels             each collection of the list s is found by the table, and has a label
 --   Batch .. k, Batches .. m         a collection has the label k; for each label below m one has it
 --   batchesFrom k m labels xs        m batches from number k on: each the collections of xs that have its label
@@ -8,19 +8,16 @@ use mathlib.Core.Bool.{true}
 use mathlib.Core.List.{List, map}
 use mathlib.Core.Path.{_≡_}
 use lib.Dec.{eqb}
-use lib.ListN.{length, take, drop, getD}
-use Rattle.laws.specs.Bytes.{Bytes, span}
+use lib.ListN.{length, getD}
+use Rattle.laws.specs.Bytes.{Bytes}
 use Rattle.laws.specs.Lists.{count}
 use Rattle.profile.specs.Limits.{mostBatches, mostCollections, mostCents}
-use Rattle.frames.specs.Lines.{notEnd}
+use Rattle.frames.specs.Lines.{lineFrom}
 use Rattle.frames.specs.Hex.{unhex}
 use Rattle.frames.specs.Frames.{framed, collection}
 use Rattle.bundle.specs.Labels.{pick, upFrom}
 use Rattle.listed.specs.Listed.{Collection, collectionOf, listed}
 use Rattle.written.specs.Written.{noCollection}
-
-abbrev pub lineFrom : Bytes → ℕ → Bytes
-lineFrom s a = take (span notEnd (drop a s)) (drop a s)
 
 abbrev pub collectionAt : Bytes → ℕ → Collection
 collectionAt s a = collectionOf (unhex (lineFrom s a))

@@ -8,14 +8,14 @@ ghost use lib.ListN.{length, drop};
 ghost use Rattle.laws.specs.Bytes.{span};
 ghost use Rattle.laws.specs.Lists.{putIf, total, count, gather};
 ghost use Rattle.frames.specs.Hex.{unhex};
-ghost use Rattle.frames.specs.Lines.{notEnd};
+ghost use Rattle.frames.specs.Lines.{notEnd, lineFrom};
 ghost use Rattle.frames.specs.Frames.{framed, creditor, collection};
 ghost use Rattle.profile.specs.Limits.{mostCents};
 ghost use Rattle.bundle.specs.Labels.{pick};
 ghost use Rattle.put.specs.Wrote.{Wrote};
 ghost use Rattle.listed.specs.Listed.{listed, creditorOf};
 ghost use Rattle.written.specs.Pieces.{transactionBytes, termsBytes, headBytes, batchBytes};
-ghost use Rattle.batched.specs.Ready.{lineFrom, collectionAt, Ready, Batch};
+ghost use Rattle.batched.specs.Ready.{collectionAt, Ready, Batch};
 
 // ─── a line ───
 

@@ -16,7 +16,7 @@ use lib.Dec.{T, eqb, eqb→eq}
 use lib.ListN.{length, getD}
 use Rattle.laws.specs.Lists.{one, putIf, total, count, keep, All, gather}
 use Rattle.laws.proofs.Tests.{true-T, same-test}
-use Rattle.laws.proofs.Counts.{total-ext, count-map, map-id, map-keep, All-putIf}
+use Rattle.laws.proofs.Counts.{total-ext, count-map, map-id, map-keep, All-kept}
 use Rattle.bundle.specs.Bundle.{firsts, pieces, ceil, Decides, bundle, need, Fits}
 use Rattle.bundle.specs.Labels.{unless, firstAt, codes, needOf, labelsOf, pick, upFrom, upTo}
 use Rattle.bundle.proofs.Equality.{eq-true, numbers-decide}
@@ -47,13 +47,9 @@ groups R c xs = gather (λ x. pieces c (keep (R x) xs)) (firsts R xs)
 
 -- what is said of collections of which M holds
 module _ {X : Type 0} (M : X → Type 0) where
-  all-kept : (p : X → Bool) (xs : List X) → All M xs → All M (keep p xs)
-  all-kept p [] h = tt
-  all-kept p (x ∷ xs) h = All-putIf M (p x) x (keep p xs) (h .0) (all-kept p xs (h .1))
-
   all-firsts : (R : X → X → Bool) (xs : List X) → All M xs → All M (firsts R xs)
   all-firsts R [] h = tt
-  all-firsts R (x ∷ xs) h = (h .0, all-kept (λ y. not (R x y)) (firsts R xs) (all-firsts R xs (h .1)))
+  all-firsts R (x ∷ xs) h = (h .0, All-kept M (λ y. not (R x y)) (firsts R xs) (all-firsts R xs (h .1)))
 
   keep-agree : (p q : X → Bool) → ((x : X) → M x → p x ≡ q x) → (xs : List X) → All M xs → keep p xs ≡ keep q xs
   keep-agree p q e [] h = refl

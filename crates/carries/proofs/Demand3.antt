@@ -13,7 +13,7 @@ use mathlib.Core.Path.{_≡_, sym, subst⁻¹, _∙_}
 use mathlib.Core.Logic.{_↔_}
 use lib.ListN.{length, drop}
 use Rattle.laws.specs.Lists.{keep, All, concat}
-use Rattle.laws.proofs.Counts.{All-putIf, All-map, All-take, All-drop, All-gather}
+use Rattle.laws.proofs.Counts.{All-kept, All-map, All-take, All-drop, All-gather}
 use Rattle.profile.specs.Limits.{mostBatches, mostCollections}
 use Rattle.tree.specs.Form.{Message}
 use Rattle.tree.specs.Pain008.{Document}
@@ -31,10 +31,6 @@ use Rattle.carries.proofs.Written.{GoodBatch, Ready, written-accepted, 
 -- ─── what holds of each collection holds in each batch ───
 
 module _ {X : Type 0} (P : X → Type 0) where
-  keep-all : (q : X → Bool) (xs : List X) → All P xs → All P (keep q xs)
-  keep-all q [] a = tt
-  keep-all q (x ∷ xs) a = All-putIf P (q x) x (keep q xs) (a .0) (keep-all q xs (a .1))
-
   cut-all : (n c : ℕ) (xs : List X) → All P xs → All (All P) (cut n c xs)
   cut-all zero c xs a = tt
   cut-all (suc n) c [] a = tt
@@ -43,7 +39,7 @@ module _ {X : Type 0} (P : X → Type 0) where
   bundle-all : {K : Type 0} (terms : X → K) (eq : K → K → Bool) (c : ℕ) (xs : List X) → All P xs → All (All P) (bundle terms eq c xs)
   bundle-all terms eq c xs a =
       All-gather (All P) (λ k. pieces c (having terms eq k xs)) (allTerms terms eq xs)
-      (λ k. cut-all (length (having terms eq k xs)) c (having terms eq k xs) (keep-all (λ x. eq k (terms x)) xs a))
+      (λ k. cut-all (length (having terms eq k xs)) c (having terms eq k xs) (All-kept P (λ x. eq k (terms x)) xs a))
 
 module _ {A : Type 0} where
   concat-some : (bs : List (List A)) → 1 ≤ length (concat bs) → 1 ≤ length bs

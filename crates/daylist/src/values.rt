@@ -16,12 +16,6 @@ use text::Rule;
 
 // ─── the fields before the texts ───
 
-fn wide(c: u8) -> u64
-    ensures { λ r. ⌜ r ≡ c ⌝ }
-{
-    c as u64
-}
-
 // The number that the `count` bytes from `from` on are, high first.
 pub fn high_first(line: &[u8], from: usize, count: usize) -> u64
     requires { ⌜ (from ≤ 255) × (count ≤ 7) ⌝ }
@@ -31,7 +25,7 @@ pub fn high_first(line: &[u8], from: usize, count: usize) -> u64
     let mut v: u64 = 0;
     let mut at = from;
     while at < end {
-        v = v * 256 + wide(hex::byte_at(line, at));
+        v = v * 256 + marks::wide(hex::byte_at(line, at));
         at += 1;
     }
     v

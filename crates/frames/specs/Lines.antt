@@ -3,12 +3,13 @@
 --   notEnd     a byte that does not end a line
 --   lines s    the lines of s: bytes behind the last LF are a line that lacks it; no bytes, no lines
 --   starts s   where each line starts in s, counted in bytes from 0
+--   lineFrom s a   the bytes from a on, up to the next LF
 use Prim.Native.Nat.{ℕ, _+_}
 use mathlib.Core.Bool.{Bool, true, false, not}
 use mathlib.Core.List.{List, [], _∷_}
 use lib.Dec.{eqb}
-use lib.ListN.{length}
-use Rattle.laws.specs.Bytes.{Bytes}
+use lib.ListN.{length, take, drop}
+use Rattle.laws.specs.Bytes.{Bytes, span}
 
 pub record Line : Type 0 where
   pub bytes : Bytes
@@ -33,3 +34,6 @@ startsFrom n (l ∷ ls) = n ∷ startsFrom (n + length (l .bytes) + 1) ls
 
 abbrev pub starts : Bytes → List ℕ
 starts s = startsFrom 0 (lines s)
+
+abbrev pub lineFrom : Bytes → ℕ → Bytes
+lineFrom s a = take (span notEnd (drop a s)) (drop a s)

@@ -1,7 +1,7 @@
 -- THE LAWS OF `total`, `count`, `keep`, `All`, `concat` AND `gather`.
 --   total-append, total-plus, total-le, total-ext, total-zero    sums
 --   count-append, count-map, count-ext, count-none               counts; count-le-length: at most the length
---   count-keep, length-keep, All-keep                            what is kept: how many pass a test, how many there are, each passed
+--   count-keep, length-keep, All-keep                            what is kept: how many pass a test, how many there are, each passed; All-kept: what held before
 --   keep-ext, keep-true, keep-keep, map-keep                     by an equal test, by no test, by two tests, of a mapped list; map-id: mapped to itself
 --   All-append, All-map, All-take, All-drop, All-putIf           what holds of each
 --   concat-append                                                lists of lists, one behind the other
@@ -91,6 +91,14 @@ module _ {A : Type 0} where
       go : (z : Bool) → (T z → T (q x)) → All (λ x. T (q x)) (keep q xs) → All (λ x. T (q x)) (putIf z x (keep q xs))
       go true f h = (f tt, h)
       go false f h = h
+
+  pub All-kept : (P : A → Type 0) (q : A → Bool) (xs : List A) → All P xs → All P (keep q xs)
+  All-kept P q [] h = tt
+  All-kept P q (x ∷ xs) h = go (q x)
+    where
+      go : (z : Bool) → All P (putIf z x (keep q xs))
+      go true = (h .0, All-kept P q xs (h .1))
+      go false = All-kept P q xs (h .1)
 
   pub keep-ext : (p q : A → Bool) (xs : List A) → ((x : A) → p x ≡ q x) → keep p xs ≡ keep q xs
   keep-ext p q [] h = refl

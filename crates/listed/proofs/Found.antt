@@ -11,7 +11,7 @@ use lib.Dec.{eqb}
 use lib.ListN.{length, getD}
 use Rattle.laws.specs.Bytes.{Bytes}
 use Rattle.laws.specs.Lists.{count}
-use Rattle.frames.specs.Lines.{Line, lines, startsFrom, starts}
+use Rattle.frames.specs.Lines.{Line, lines, startsFrom, starts, lineFrom}
 use Rattle.frames.specs.Hex.{unhex}
 use Rattle.frames.specs.Frames.{creditor as creditorFrame, collection as collectionFrame, frameOf, framed}
 use Rattle.frames.proofs.Cuts.{by-further}
@@ -25,7 +25,7 @@ use Rattle.daylist.proofs.Goods.{GoodList, good-list, frames-each}
 use Rattle.listed.specs.Listed.{Collection, sameTerms, collectionOf, creditorOf, firstLine, creditor, termsNumber, listed, numbersOf}
 use Rattle.listed.specs.Good.{GoodTerms, GoodCollection}
 use Rattle.listed.proofs.Terms.{terms-decide, same-number}
-use Rattle.listed.proofs.Lines.{none, lineFrom, numbers-length, collection-at}
+use Rattle.listed.proofs.Lines.{none, numbers-length, collection-at}
 use Rattle.listed.proofs.Goods.{framed-line, good-collections, good-number, good-terms}
 
 module _ (s : Bytes) (c n : ℕ) (e : judgedList s c ≡ Good n) where

@@ -19,7 +19,7 @@ use Rattle.laws.specs.Put.{putAt}
 use Rattle.laws.proofs.Loops.{drop-step}
 use Rattle.laws.proofs.Puts.{put-all}
 use Rattle.text.specs.Rules.{told, date}
-use Rattle.frames.specs.Lines.{Line, notEnd, lines, starts}
+use Rattle.frames.specs.Lines.{Line, notEnd, lines, starts, lineFrom}
 use Rattle.frames.specs.Hex.{unhex}
 use Rattle.frames.specs.Frames.{texts}
 use Rattle.frames.proofs.Starts.{line-at, start-within, starts-number}
@@ -72,10 +72,6 @@ listed-number s = length-map (drop 1 (lines s)) _ ∙ length-drop 1 (lines s)
 
 pub numbers-length : (s : Bytes) → length (numbersOf s) ≡ length (lines s) - 1
 numbers-length s = length-map (listed s) _ ∙ listed-number s
-
--- the bytes from the start of a line up to the next LF
-abbrev pub lineFrom : Bytes → ℕ → Bytes
-lineFrom s a = take (span notEnd (drop a s)) (drop a s)
 
 pub collection-at : (s : Bytes) (i : ℕ) (d : Collection) → i + 1 < length (lines s) → getD (listed s) i d ≡ collectionOf (unhex (lineFrom s (getD (starts s) (i + 1) 0)))
 collection-at s i d h =

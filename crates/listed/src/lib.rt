@@ -14,12 +14,6 @@ use frames::hex;
 use text::Judged;
 use text::Rule;
 
-fn wide(c: u8) -> u64
-    ensures { λ r. ⌜ r ≡ c ⌝ }
-{
-    c as u64
-}
-
 // The collection date of a line as the number yyyymmdd, 0 where it is none.
 fn day_number(line: &[u8]) -> u64
     ensures { λ r. ⌜ r ≡ told (date (collectionOf (unhex (now (line .entry))) .terms .date)) ⌝ }
@@ -45,8 +39,8 @@ pub fn terms_number(line: &[u8]) -> u64
     ensures { λ r. ⌜ r ≡ termsNumber (collectionOf (unhex (now (line .entry))) .terms) ⌝ }
 {
     let day = day_number(line);
-    let scheme = wide(hex::byte_at(line, 1));
-    let sequence = wide(hex::byte_at(line, 2));
+    let scheme = marks::wide(hex::byte_at(line, 1));
+    let sequence = marks::wide(hex::byte_at(line, 2));
     (day * 2 + scheme) * 4 + sequence
 }
 

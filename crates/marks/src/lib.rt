@@ -194,7 +194,8 @@ pub fn has_shape(text: &[u8], pattern: &[u8]) -> bool
 
 // ─── numbers ───
 
-fn wide(c: u8) -> u64
+// A byte as a number.
+pub fn wide(c: u8) -> u64
     ensures { λ r. ⌜ r ≡ c ⌝ }
 {
     c as u64

@@ -2,7 +2,6 @@
 //   the message, with nothing behind it
 //   NO number place   the first of refusals 21 to 27
 //   TOO LONG          the list or its message has more than 65,536 bytes
-ghost use Prim.Native.Nat.{_<_};
 use libc::STDIN_FILENO;
 use prints::print;
 use prints::print_refused;
@@ -38,19 +37,13 @@ fn print_written(list: &[u8], ceiling: u64) {
 
 // ─── the argument ───
 
-fn wide(c: u8) -> u64
-    ensures { λ r. ⌜ r < 256 ⌝ }
-{
-    c as u64
-}
-
 // The number that digits spell. Where it is above every ceiling the digits left do not matter.
 fn spelled(digits: &[u8]) -> u64 {
     let mut v: u64 = 0;
     let mut i = 0;
     while i < digits.len() {
         if v < 1000 {
-            v = v * 10 + wide(frames::hex::hex_value(digits[i]));
+            v = v * 10 + marks::wide(frames::hex::hex_value(digits[i]));
         }
         i += 1;
     }

@@ -11,7 +11,7 @@ use mathlib.Core.Path.{_≡_, refl, sym, _∙_}
 use lib.ListN.{length, drop, length-take}
 use Rattle.laws.specs.Bytes.{Bytes}
 use Rattle.laws.specs.Lists.{count, keep, All, concat}
-use Rattle.laws.proofs.Counts.{All-map, All-take, All-drop, All-putIf, All-gather}
+use Rattle.laws.proofs.Counts.{All-map, All-take, All-drop, All-kept, All-gather}
 use Rattle.profile.specs.Limits.{mostBytes, mostBatches, mostCollections}
 use Rattle.tree.specs.Form.{message}
 use Rattle.tree.specs.Pain008.{declaration}
@@ -32,10 +32,6 @@ module _ {A : Type 0} (P : A → Type 0) where
   -- a batch that is not empty, and of whose collections P holds
   abbrev Full : List A → Type 0
   Full b = (1 ≤ length b) × All P b
-
-  keep-all : (q : A → Bool) (xs : List A) → All P xs → All P (keep q xs)
-  keep-all q [] h = tt
-  keep-all q (x ∷ xs) h = All-putIf P (q x) x (keep q xs) (h .0) (keep-all q xs (h .1))
 
   cut-full : (n c : ℕ) (xs : List A) → 1 ≤ c → All P xs → All Full (cut n c xs)
   cut-full zero c xs l h = tt
@@ -64,7 +60,7 @@ module _ (d : Decides sameTerms) (c : ℕ) (xs : List Collection) (l : 1 ≤ c) 
   module _ (h : All GoodCollection xs) where
     pub batches-good : All (λ b. (1 ≤ length b) × All GoodCollection b) (batchesOf c xs)
     batches-good = All-gather (Full GoodCollection) (λ k. pieces c (having (λ x. x .terms) sameTerms k xs)) (allTerms (λ x. x .terms) sameTerms xs)
-        (λ k. cut-full GoodCollection (length (having (λ x. x .terms) sameTerms k xs)) c (having (λ x. x .terms) sameTerms k xs) l (keep-all GoodCollection (λ x. sameTerms k (x .terms)) xs h))
+        (λ k. cut-full GoodCollection (length (having (λ x. x .terms) sameTerms k xs)) c (having (λ x. x .terms) sameTerms k xs) l (All-kept GoodCollection (λ x. sameTerms k (x .terms)) xs h))
 
     module _ (cr : Creditor) (k : GoodCreditor cr) where
       pub bundled-written : 1 ≤ length xs → messageBytes cr (batchesOf c xs) ≡ message declaration (messageOf cr (batchesOf c xs))

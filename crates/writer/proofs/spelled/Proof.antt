@@ -7,7 +7,7 @@ use Rattle.writer.proofs.spelled.Tie as tie
 use Rattle.writer.proofs.spelled.Reads as reads
 use Rattle.writer.proofs.spelled.Lts as lts
 use Rattle.frames.proofs.hex.hex_value.Reads as hex-value-reads
-use Rattle.writer.proofs.wide.Reads as wide-reads
+use Rattle.marks.proofs.wide.Reads as wide-reads
 
 abbrev Inv-loop : tie.InvT-loop
 Inv-loop digits v₀ i₀ v i = i ≤ length digits
