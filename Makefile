@@ -2,8 +2,9 @@
 # test   the gate: every proof, every must-fail edit, every program; its last line is `N passed, 0 failed`
 # lib    target/staticlib/libdesk.a, the library for C (include/desk.h)
 # desk   target/desk, the command for people
+# bench  the library beside a checker and a writer by hand in C
 # soak   the library beside the second program with fresh seeds: make soak SECONDS=600
-.PHONY: demo test lib desk soak
+.PHONY: demo test lib desk bench soak
 .SILENT:
 
 demo:
@@ -17,6 +18,9 @@ lib:
 
 desk: lib
 	./tools/link target/desk host/*.c
+
+bench:
+	./tools/bench
 
 soak:
 	./tools/soak $(or $(SECONDS),600)
