@@ -1,11 +1,12 @@
 -- `pieces::head::put_id` meets its contract.
 use Rattle.put.proofs.Writes.{wrote-then}
+use mathlib.Core.Path.{refl}
 use borrow.Author.Needs.{needs}
 use Rattle.pieces.proofs.head.put_id.Statement.{statement}
 use Rattle.pieces.proofs.head.put_id.Tie as tie
 
 slice-aggregate-put : tie.Need-slice-aggregate-put
-slice-aggregate-put c = search needs
+slice-aggregate-put c = refl
 
 put-requires : tie.Need-put-requires
 put-requires c κs = search needs
@@ -13,11 +14,11 @@ put-requires c κs = search needs
 put-batch-id-requires : tie.Need-put-batch-id-requires
 put-batch-id-requires c κs = search needs
 
-same-length : tie.Need-same-length
-same-length c = search needs
-
 returns : tie.Need-returns
 returns c = wrote-then _ _ (c .before .before .before .before .before .before .put .ensures) (c .before .before .put-batch-id .ensures)
+
+same-length : tie.Need-same-length
+same-length c = returns c .same
 
 pub put-id-spec : {M : Type 1} → statement M
 put-id-spec =

@@ -1,33 +1,34 @@
 -- `pieces::head::put_ids` meets its contract.
 use Rattle.put.proofs.Writes.{wrote-then}
 use native.Mathlib.Omega.{arith}
+use mathlib.Core.Path.{refl}
 use borrow.Author.Needs.{needs}
 use Rattle.pieces.proofs.head.put_ids.Statement.{statement}
 use Rattle.pieces.proofs.head.put_ids.Tie as tie
 
 slice-aggregate-put : tie.Need-slice-aggregate-put
-slice-aggregate-put c = search needs
+slice-aggregate-put c = refl
 
 put-requires : tie.Need-put-requires
 put-requires c κs = search needs
 
 slice-aggregate-put-behind : tie.Need-slice-aggregate-put-behind
-slice-aggregate-put-behind c = search needs
+slice-aggregate-put-behind c = refl
 
 put-behind-requires : tie.Need-put-behind-requires
 put-behind-requires c κs = search needs
 
 slice-aggregate-put-behind-2 : tie.Need-slice-aggregate-put-behind-2
-slice-aggregate-put-behind-2 c = search needs
+slice-aggregate-put-behind-2 c = refl
 
 put-behind-requires-2 : tie.Need-put-behind-requires-2
 put-behind-requires-2 c κs = search needs
 
-same-length : tie.Need-same-length
-same-length c = search needs
-
 returns : tie.Need-returns
 returns c = ((wrote-then _ _ (c .before .before .before .before .before .before .before .before .before .before .before .before .put .ensures) (wrote-then _ _ (c .before .before .before .before .before .before .before .put-behind .ensures .0) (c .before .before .put-behind2 .ensures .0))), omega arith)
+
+same-length : tie.Need-same-length
+same-length c = returns c .0 .same
 
 pub put-ids-spec : {M : Type 1} → statement M
 put-ids-spec =

@@ -2,6 +2,7 @@
 use Rattle.put.proofs.Writes.{wrote-then}
 use native.Mathlib.Omega.{arith}
 use Rattle.pieces.proofs.Choices.{opening-join}
+use mathlib.Core.Path.{refl}
 use borrow.Author.Needs.{needs}
 use Rattle.pieces.proofs.head.put_opening.Statement.{statement}
 use Rattle.pieces.proofs.head.put_opening.Tie as tie
@@ -10,7 +11,7 @@ put-ids-requires : tie.Need-put-ids-requires
 put-ids-requires c κs = search needs
 
 slice-aggregate-put : tie.Need-slice-aggregate-put
-slice-aggregate-put c = search needs
+slice-aggregate-put c = refl
 
 put-requires : tie.Need-put-requires
 put-requires c κs = search needs
@@ -19,25 +20,25 @@ put-sums-requires : tie.Need-put-sums-requires
 put-sums-requires c κs = search needs
 
 slice-aggregate-put-behind : tie.Need-slice-aggregate-put-behind
-slice-aggregate-put-behind c = search needs
+slice-aggregate-put-behind c = refl
 
 put-behind-requires : tie.Need-put-behind-requires
 put-behind-requires c κs = search needs
 
 slice-aggregate-put-2 : tie.Need-slice-aggregate-put-2
-slice-aggregate-put-2 c = search needs
+slice-aggregate-put-2 c = refl
 
 put-requires-2 : tie.Need-put-requires-2
 put-requires-2 c κs = search needs
-
-same-length : tie.Need-same-length
-same-length c = search needs
 
 returns : tie.Need-returns
 returns c = (
   opening-join _ _ _ (wrote-then _ _ (c .before .before .before .before .before .before .before .before .before .before .before .before .before .before .before .before .before .before .before .before .before .put-ids .ensures .0) (wrote-then _ _ (c .before .before .before .before .before .before .before .before .before .before .before .before .before .before .before .before .put .ensures) (wrote-then _ _ (c .before .before .before .before .before .before .before .before .before .before .before .before .put-sums .ensures .0) (wrote-then _ _ (c .before .before .before .before .before .before .before .put-behind .ensures .0) (c .before .before .put2 .ensures))))),
   omega arith,
 )
+
+same-length : tie.Need-same-length
+same-length c = returns c .0 .same
 
 pub put-opening-spec : {M : Type 1} → statement M
 put-opening-spec =

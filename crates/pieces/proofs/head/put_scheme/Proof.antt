@@ -2,33 +2,34 @@
 use Rattle.put.proofs.Writes.{wrote-nil}
 use Rattle.pieces.proofs.Choices.{no-scheme}
 use native.Mathlib.Omega.{arith}
+use mathlib.Core.Path.{refl}
 use borrow.Author.Needs.{needs}
 use Rattle.pieces.proofs.head.put_scheme.Statement.{statement}
 use Rattle.pieces.proofs.head.put_scheme.Tie as tie
 
 slice-aggregate-put : tie.Need-slice-aggregate-put
-slice-aggregate-put c = search needs
+slice-aggregate-put c = refl
 
 put-requires : tie.Need-put-requires
 put-requires c κs = search needs
 
 slice-aggregate-put-2 : tie.Need-slice-aggregate-put-2
-slice-aggregate-put-2 c = search needs
+slice-aggregate-put-2 c = refl
 
 put-requires-2 : tie.Need-put-requires-2
 put-requires-2 c κs = search needs
 
-same-length : tie.Need-same-length
-same-length c = search needs
-
 returns : tie.Need-returns
 returns c = (rw (c .before .before .before .before .before .match .keys1) (c .before .before .put .ensures), omega arith)
 
-same-length-2 : tie.Need-same-length-2
-same-length-2 c = search needs
+same-length : tie.Need-same-length
+same-length c = returns c .0 .same
 
 returns-2 : tie.Need-returns-2
 returns-2 c = (rw (c .before .before .before .before .before .match .keys2) (c .before .before .put2 .ensures), omega arith)
+
+same-length-2 : tie.Need-same-length-2
+same-length-2 c = returns-2 c .0 .same
 
 returns-3 : tie.Need-returns-3
 returns-3 c = (rw (no-scheme (c .before .before .args .scheme) (omega (arith, c .match .rest))) (wrote-nil _ _), omega arith)

@@ -2,7 +2,7 @@
 use Rattle.put.proofs.Writes.{wrote-then}
 use Rattle.pieces.proofs.Choices.{lead-at}
 use Rattle.frames.specs.Hex.{unhex}
-use mathlib.Core.Path.{sym, _∙_}
+use mathlib.Core.Path.{refl, sym, _∙_}
 use native.Mathlib.Omega.{arith}
 use borrow.Author.Needs.{needs}
 use Rattle.pieces.proofs.head.put_terms.Statement.{statement}
@@ -15,7 +15,7 @@ put-scheme-requires : tie.Need-put-scheme-requires
 put-scheme-requires c κs = search needs
 
 slice-aggregate-put : tie.Need-slice-aggregate-put
-slice-aggregate-put c = search needs
+slice-aggregate-put c = refl
 
 put-requires : tie.Need-put-requires
 put-requires c κs = search needs
@@ -27,19 +27,16 @@ put-sequence-requires : tie.Need-put-sequence-requires
 put-sequence-requires c κs = search needs
 
 slice-aggregate-put-behind : tie.Need-slice-aggregate-put-behind
-slice-aggregate-put-behind c = search needs
+slice-aggregate-put-behind c = refl
 
 put-behind-requires : tie.Need-put-behind-requires
 put-behind-requires c κs = search needs
 
 slice-aggregate-put-2 : tie.Need-slice-aggregate-put-2
-slice-aggregate-put-2 c = search needs
+slice-aggregate-put-2 c = refl
 
 put-requires-2 : tie.Need-put-requires-2
 put-requires-2 c κs = search needs
-
-same-length : tie.Need-same-length
-same-length c = search needs
 
 returns : tie.Need-returns
 returns c =
@@ -51,6 +48,9 @@ returns c =
           (wrote-then _ _ (c .before .before .before .before .before .before .before .before .before .before .before .before .before .before .before .before .before .put .ensures) (wrote-then _ _ (rw sequence at (c .before .before .before .before .before .before .before .before .before .before .before .before .put-sequence .ensures .0)) (wrote-then _ _ (c .before .before .before .before .before .before .before .put-behind .ensures .0) (c .before .before .put2 .ensures)))),
       omega arith,
     )
+
+same-length : tie.Need-same-length
+same-length c = returns c .0 .same
 
 pub put-terms-spec : {M : Type 1} → statement M
 put-terms-spec =

@@ -5,6 +5,7 @@ use Rattle.pieces.proofs.Choices.{bank-none, bank-some}
 use Rattle.pieces.specs.Texts.{textAt}
 use Rattle.frames.specs.Hex.{unhex}
 use native.Mathlib.Omega.{arith}
+use mathlib.Core.Path.{refl}
 use borrow.Author.Needs.{needs}
 use Rattle.pieces.proofs.texts.put_bank.Statement.{statement}
 use Rattle.pieces.proofs.texts.put_bank.Tie as tie
@@ -16,38 +17,38 @@ text-part-requires : tie.Need-text-part-requires
 text-part-requires c κs = let x = c .before .before .before in text-has _ _ _ (c .frame-of .ensures) (x .pre .0)
 
 slice-aggregate-put : tie.Need-slice-aggregate-put
-slice-aggregate-put c = search needs
+slice-aggregate-put c = refl
 
 put-requires : tie.Need-put-requires
 put-requires c κs = search needs
-
-same-length : tie.Need-same-length
-same-length c = search needs
 
 returns : tie.Need-returns
 returns c =
     let x = c .before .before .before .before .before .before .before .before .before .before .before in
     (bank-none (textAt (x .args .number) (x .args .i) (unhex (x .args .line .now))) (text-none (x .args .number) (x .args .i) (x .args .line .now) _ _ (c .before .before .before .before .before .before .before .before .frame-of .ensures) (c .before .before .before .before .before .before .before .text-part .ensures) (c .before .before .before .before .before .if1 .taken)) (c .before .before .put .ensures), omega arith)
 
+same-length : tie.Need-same-length
+same-length c = returns c .0 .same
+
 slice-aggregate-put-behind : tie.Need-slice-aggregate-put-behind
-slice-aggregate-put-behind c = search needs
+slice-aggregate-put-behind c = refl
 
 put-behind-requires : tie.Need-put-behind-requires
 put-behind-requires c κs = search needs
 
 slice-aggregate-put-2 : tie.Need-slice-aggregate-put-2
-slice-aggregate-put-2 c = search needs
+slice-aggregate-put-2 c = refl
 
 put-requires-2 : tie.Need-put-requires-2
 put-requires-2 c κs = search needs
-
-same-length-2 : tie.Need-same-length-2
-same-length-2 c = search needs
 
 returns-2 : tie.Need-returns-2
 returns-2 c =
     let x = c .before .before .before .before .before .before .before .before .before .before .before .before .before .before .before .before in
     (bank-some (textAt (x .args .number) (x .args .i) (unhex (x .args .line .now))) (text-some (x .args .number) (x .args .i) (x .args .line .now) _ _ (c .before .before .before .before .before .before .before .before .before .before .before .before .before .frame-of .ensures) (c .before .before .before .before .before .before .before .before .before .before .before .before .text-part .ensures) (c .before .before .before .before .before .before .before .before .before .before .if1 .left)) (wrote-then _ _ (c .before .before .before .before .before .before .before .put-behind .ensures .0) (c .before .before .put2 .ensures)), omega arith)
+
+same-length-2 : tie.Need-same-length-2
+same-length-2 c = returns-2 c .0 .same
 
 pub put-bank-spec : {M : Type 1} → statement M
 put-bank-spec =

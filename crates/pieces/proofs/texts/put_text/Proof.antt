@@ -33,9 +33,6 @@ put-hex-requires c κs =
     let x = c .before .before .before .before .before .before .before in
     omega (arith, text-short (x .args .number) (x .args .i) (x .args .line .now), ap length (text-is (x .args .number) (x .args .i) (x .args .line .now) _ _ (c .before .before .before .before .frame-of .ensures) (c .before .before .before .text-part .ensures) (x .pre .0)))
 
-same-length : tie.Need-same-length
-same-length c = search needs
-
 returns : tie.Need-returns
 returns c =
     let x = c .before .before .before .before .before .before .before .before .before .before in
@@ -43,6 +40,9 @@ returns c =
       subst (λ (s : Bytes). Wrote (x .args .out .now) (c .before .before .put-hex .last .0) (x .args .at) (c .before .before .put-hex .result) s) e (c .before .before .put-hex .ensures),
       omega (arith, text-short (x .args .number) (x .args .i) (x .args .line .now), ap length e, c .before .before .put-hex .ensures .end),
     )
+
+same-length : tie.Need-same-length
+same-length c = returns c .0 .same
 
 pub put-text-spec : {M : Type 1} → statement M
 put-text-spec =

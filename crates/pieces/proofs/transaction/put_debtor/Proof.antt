@@ -1,6 +1,7 @@
 -- `pieces::transaction::put_debtor` meets its contract.
 use Rattle.put.proofs.Writes.{wrote-then}
 use native.Mathlib.Omega.{arith}
+use mathlib.Core.Path.{refl}
 use borrow.Author.Needs.{needs}
 use Rattle.pieces.proofs.transaction.put_debtor.Statement.{statement}
 use Rattle.pieces.proofs.transaction.put_debtor.Tie as tie
@@ -9,19 +10,19 @@ put-bank-requires : tie.Need-put-bank-requires
 put-bank-requires c κs = search needs
 
 slice-aggregate-put-behind : tie.Need-slice-aggregate-put-behind
-slice-aggregate-put-behind c = search needs
+slice-aggregate-put-behind c = refl
 
 put-behind-requires : tie.Need-put-behind-requires
 put-behind-requires c κs = search needs
 
 slice-aggregate-put-behind-2 : tie.Need-slice-aggregate-put-behind-2
-slice-aggregate-put-behind-2 c = search needs
+slice-aggregate-put-behind-2 c = refl
 
 put-behind-requires-2 : tie.Need-put-behind-requires-2
 put-behind-requires-2 c κs = search needs
 
 slice-aggregate-put : tie.Need-slice-aggregate-put
-slice-aggregate-put c = search needs
+slice-aggregate-put c = refl
 
 put-requires : tie.Need-put-requires
 put-requires c κs = search needs
@@ -30,19 +31,19 @@ put-remittance-requires : tie.Need-put-remittance-requires
 put-remittance-requires c κs = search needs
 
 slice-aggregate-put-2 : tie.Need-slice-aggregate-put-2
-slice-aggregate-put-2 c = search needs
+slice-aggregate-put-2 c = refl
 
 put-requires-2 : tie.Need-put-requires-2
 put-requires-2 c κs = omega (arith, c .before .before .before .before .put-remittance .ensures .1, c .before .before .before .before .before .before .before .before .put .ensures .end, c .before .before .before .before .before .before .before .before .before .before .before .before .before .put-behind2 .ensures .1, c .before .before .before .before .before .before .before .before .before .before .before .before .before .before .before .before .before .before .put-behind .ensures .1, c .before .before .before .before .before .before .before .before .before .before .before .before .before .before .before .before .before .before .before .before .before .before .before .put-bank .ensures .1, c .before .before .before .before .before .before .before .before .before .before .before .before .before .before .before .before .before .before .before .before .before .before .before .before .before .before .before .pre .1)
-
-same-length : tie.Need-same-length
-same-length c = search needs
 
 returns : tie.Need-returns
 returns c = (
   (wrote-then _ _ (c .before .before .before .before .before .before .before .before .before .before .before .before .before .before .before .before .before .before .before .before .before .before .before .before .before .before .put-bank .ensures .0) (wrote-then _ _ (c .before .before .before .before .before .before .before .before .before .before .before .before .before .before .before .before .before .before .before .before .before .put-behind .ensures .0) (wrote-then _ _ (c .before .before .before .before .before .before .before .before .before .before .before .before .before .before .before .before .put-behind2 .ensures .0) (wrote-then _ _ (c .before .before .before .before .before .before .before .before .before .before .before .put .ensures) (wrote-then _ _ (c .before .before .before .before .before .before .before .put-remittance .ensures .0) (c .before .before .put2 .ensures)))))),
   omega (arith, c .before .before .put2 .ensures .end, c .before .before .before .before .before .before .before .put-remittance .ensures .1, c .before .before .before .before .before .before .before .before .before .before .before .put .ensures .end, c .before .before .before .before .before .before .before .before .before .before .before .before .before .before .before .before .put-behind2 .ensures .1, c .before .before .before .before .before .before .before .before .before .before .before .before .before .before .before .before .before .before .before .before .before .put-behind .ensures .1, c .before .before .before .before .before .before .before .before .before .before .before .before .before .before .before .before .before .before .before .before .before .before .before .before .before .before .put-bank .ensures .1),
 )
+
+same-length : tie.Need-same-length
+same-length c = returns c .0 .same
 
 pub put-debtor-spec : {M : Type 1} → statement M
 put-debtor-spec =

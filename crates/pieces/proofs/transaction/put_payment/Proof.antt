@@ -1,18 +1,19 @@
 -- `pieces::transaction::put_payment` meets its contract.
 use Rattle.put.proofs.Writes.{wrote-then, length-euros}
 use native.Mathlib.Omega.{arith}
+use mathlib.Core.Path.{refl}
 use borrow.Author.Needs.{needs}
 use Rattle.pieces.proofs.transaction.put_payment.Statement.{statement}
 use Rattle.pieces.proofs.transaction.put_payment.Tie as tie
 
 slice-aggregate-put-behind : tie.Need-slice-aggregate-put-behind
-slice-aggregate-put-behind c = search needs
+slice-aggregate-put-behind c = refl
 
 put-behind-requires : tie.Need-put-behind-requires
 put-behind-requires c κs = search needs
 
 slice-aggregate-put : tie.Need-slice-aggregate-put
-slice-aggregate-put c = search needs
+slice-aggregate-put c = refl
 
 put-requires : tie.Need-put-requires
 put-requires c κs = search needs
@@ -24,31 +25,31 @@ put-euros-requires : tie.Need-put-euros-requires
 put-euros-requires c κs = search needs
 
 slice-aggregate-put-behind-2 : tie.Need-slice-aggregate-put-behind-2
-slice-aggregate-put-behind-2 c = search needs
+slice-aggregate-put-behind-2 c = refl
 
 put-behind-requires-2 : tie.Need-put-behind-requires-2
 put-behind-requires-2 c κs = (record { is = c .before .before .before .before .before .before .before .before .before .before .before .before .before .before .before .before .before .before .before .pre .0; there = omega arith }, omega (arith, length-euros (c .before .before .before .before .before .cents-of .result), c .before .before .before .before .put-euros .ensures .end, c .before .before .before .before .before .before .before .before .before .put .ensures .end, c .before .before .before .before .before .before .before .before .before .before .before .before .before .before .put-behind .ensures .1))
 
 slice-aggregate-put-behind-3 : tie.Need-slice-aggregate-put-behind-3
-slice-aggregate-put-behind-3 c = search needs
+slice-aggregate-put-behind-3 c = refl
 
 put-behind-requires-3 : tie.Need-put-behind-requires-3
 put-behind-requires-3 c κs = (record { is = c .before .before .before .before .before .before .before .before .before .before .before .before .before .before .before .before .before .before .before .before .before .before .before .before .pre .0; there = omega arith }, omega (arith, length-euros (c .before .before .before .before .before .before .before .before .before .before .cents-of .result), c .before .before .before .before .put-behind2 .ensures .1, c .before .before .before .before .before .before .before .before .before .put-euros .ensures .end, c .before .before .before .before .before .before .before .before .before .before .before .before .before .before .put .ensures .end, c .before .before .before .before .before .before .before .before .before .before .before .before .before .before .before .before .before .before .before .put-behind .ensures .1, c .before .before .before .before .before .before .before .before .before .before .before .before .before .before .before .before .before .before .before .before .before .before .before .before .pre .1))
 
 slice-aggregate-put-2 : tie.Need-slice-aggregate-put-2
-slice-aggregate-put-2 c = search needs
+slice-aggregate-put-2 c = refl
 
 put-requires-2 : tie.Need-put-requires-2
 put-requires-2 c κs = omega (arith, length-euros (c .before .before .before .before .before .before .before .before .before .before .before .before .before .before .before .cents-of .result), c .before .before .before .before .put-behind3 .ensures .1, c .before .before .before .before .before .before .before .before .before .put-behind2 .ensures .1, c .before .before .before .before .before .before .before .before .before .before .before .before .before .before .put-euros .ensures .end, c .before .before .before .before .before .before .before .before .before .before .before .before .before .before .before .before .before .before .before .put .ensures .end, c .before .before .before .before .before .before .before .before .before .before .before .before .before .before .before .before .before .before .before .before .before .before .before .before .put-behind .ensures .1, c .before .before .before .before .before .before .before .before .before .before .before .before .before .before .before .before .before .before .before .before .before .before .before .before .before .before .before .before .before .pre .1)
-
-same-length : tie.Need-same-length
-same-length c = search needs
 
 returns : tie.Need-returns
 returns c = (
   (wrote-then _ _ (c .before .before .before .before .before .before .before .before .before .before .before .before .before .before .before .before .before .before .before .before .before .before .before .before .before .before .before .put-behind .ensures .0) (wrote-then _ _ (c .before .before .before .before .before .before .before .before .before .before .before .before .before .before .before .before .before .before .before .before .before .before .put .ensures) (wrote-then _ _ (rw (c .before .before .before .before .before .before .before .before .before .before .before .before .before .before .before .before .before .before .cents-of .ensures) at (c .before .before .before .before .before .before .before .before .before .before .before .before .before .before .before .before .before .put-euros .ensures)) (wrote-then _ _ (c .before .before .before .before .before .before .before .before .before .before .before .before .put-behind2 .ensures .0) (wrote-then _ _ (c .before .before .before .before .before .before .before .put-behind3 .ensures .0) (c .before .before .put2 .ensures)))))),
   omega (arith, length-euros (c .before .before .before .before .before .before .before .before .before .before .before .before .before .before .before .before .before .before .cents-of .result), c .before .before .before .before .before .before .before .before .before .before .before .before .before .before .before .before .before .before .before .before .before .before .before .before .before .before .before .put-behind .ensures .1, c .before .before .before .before .before .before .before .before .before .before .before .before .before .before .before .before .before .before .before .before .before .before .put .ensures .end, c .before .before .before .before .before .before .before .before .before .before .before .before .before .before .before .before .before .put-euros .ensures .end, c .before .before .before .before .before .before .before .before .before .before .before .before .put-behind2 .ensures .1, c .before .before .before .before .before .before .before .put-behind3 .ensures .1, c .before .before .put2 .ensures .end),
 )
+
+same-length : tie.Need-same-length
+same-length c = returns c .0 .same
 
 pub put-payment-spec : {M : Type 1} → statement M
 put-payment-spec =

@@ -6,6 +6,7 @@ use Rattle.pieces.proofs.Choices.{remittance-none, remittance-some}
 use Rattle.pieces.specs.Texts.{textAt}
 use Rattle.frames.specs.Hex.{unhex}
 use native.Mathlib.Omega.{arith}
+use mathlib.Core.Path.{refl}
 use borrow.Author.Needs.{needs}
 use Rattle.pieces.proofs.transaction.put_remittance.Statement.{statement}
 use Rattle.pieces.proofs.transaction.put_remittance.Tie as tie
@@ -22,24 +23,24 @@ returns c =
     (remittance-none (textAt 2 7 (unhex (x .args .line .now))) (text-none 2 7 (x .args .line .now) _ _ (c .before .before .before .frame-of .ensures) (c .before .before .text-part .ensures) (c .if1 .taken)) (wrote-nil _ _), omega arith)
 
 slice-aggregate-put-behind : tie.Need-slice-aggregate-put-behind
-slice-aggregate-put-behind c = search needs
+slice-aggregate-put-behind c = refl
 
 put-behind-requires : tie.Need-put-behind-requires
 put-behind-requires c κs = search needs
 
 slice-aggregate-put : tie.Need-slice-aggregate-put
-slice-aggregate-put c = search needs
+slice-aggregate-put c = refl
 
 put-requires : tie.Need-put-requires
 put-requires c κs = search needs
-
-same-length : tie.Need-same-length
-same-length c = search needs
 
 returns-2 : tie.Need-returns-2
 returns-2 c =
     let x = c .before .before .before .before .before .before .before .before .before .before .before .before .before .before .before .before in
     (remittance-some (textAt 2 7 (unhex (x .args .line .now))) (text-some 2 7 (x .args .line .now) _ _ (c .before .before .before .before .before .before .before .before .before .before .before .before .before .frame-of .ensures) (c .before .before .before .before .before .before .before .before .before .before .before .before .text-part .ensures) (c .before .before .before .before .before .before .before .before .before .before .if1 .left)) (wrote-then _ _ (c .before .before .before .before .before .before .before .put-behind .ensures .0) (c .before .before .put .ensures)), omega arith)
+
+same-length : tie.Need-same-length
+same-length c = returns-2 c .0 .same
 
 pub put-remittance-spec : {M : Type 1} → statement M
 put-remittance-spec =

@@ -12,12 +12,12 @@ put-payment-requires c κs = search needs
 put-debtor-requires : tie.Need-put-debtor-requires
 put-debtor-requires c κs = search needs
 
-same-length : tie.Need-same-length
-same-length c = search needs
-
 returns : tie.Need-returns
 unfolding transactionBytes
 returns c = (wrote-then _ _ (c .before .before .before .before .before .before .put-payment .ensures .0) (c .before .before .put-debtor .ensures .0), omega arith)
+
+same-length : tie.Need-same-length
+same-length c = returns c .0 .same
 
 pub put-transaction-spec : {M : Type 1} → statement M
 put-transaction-spec =
