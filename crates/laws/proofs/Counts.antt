@@ -1,9 +1,9 @@
 -- THE LAWS OF `total`, `count`, `keep`, `All`, `concat` AND `gather`.
 --   total-append, total-plus, total-le, total-ext, total-zero    sums
 --   count-append, count-map, count-ext, count-none               counts; count-le-length: at most the length
---   count-keep, length-keep, All-keep                            what is kept: how many pass a test, how many there are, each passed; All-kept: what held before
+--   count-keep, length-keep, All-keep                            what is kept: how many pass a test, how many there are, each passed
 --   keep-ext, keep-true, keep-keep, map-keep                     by an equal test, by no test, by two tests, of a mapped list; map-id: mapped to itself
---   All-append, All-map, All-take, All-drop, All-putIf           what holds of each
+--   All-append, All-map, All-take, All-drop, All-putIf           what holds of each; All-kept: also of each that is kept
 --   concat-append                                                lists of lists, one behind the other
 --   length-gather, All-gather, count-concat-gather               what is gathered
 use Prim.Native.Nat.{ℕ, zero, suc, _+_, _≤_}
@@ -92,14 +92,6 @@ module _ {A : Type 0} where
       go true f h = (f tt, h)
       go false f h = h
 
-  pub All-kept : (P : A → Type 0) (q : A → Bool) (xs : List A) → All P xs → All P (keep q xs)
-  All-kept P q [] h = tt
-  All-kept P q (x ∷ xs) h = go (q x)
-    where
-      go : (z : Bool) → All P (putIf z x (keep q xs))
-      go true = (h .0, All-kept P q xs (h .1))
-      go false = All-kept P q xs (h .1)
-
   pub keep-ext : (p q : A → Bool) (xs : List A) → ((x : A) → p x ≡ q x) → keep p xs ≡ keep q xs
   keep-ext p q [] h = refl
   keep-ext p q (x ∷ xs) h = ap₂ {C = List A} (λ (z : Bool) (l : List A). putIf z x l) (h x) (keep-ext p q xs h)
@@ -149,6 +141,10 @@ module _ {A : Type 0} (P : A → Type 0) where
   pub All-putIf : (z : Bool) (x : A) (xs : List A) → P x → All P xs → All P (putIf z x xs)
   All-putIf true x xs a h = (a, h)
   All-putIf false x xs a h = h
+
+  pub All-kept : (q : A → Bool) (xs : List A) → All P xs → All P (keep q xs)
+  All-kept q [] h = tt
+  All-kept q (x ∷ xs) h = All-putIf (q x) x (keep q xs) (h .0) (All-kept q xs (h .1))
 
   pub All-map : (Q : A → Type 0) (xs : List A) → ((x : A) → P x → Q x) → All P xs → All Q xs
   All-map Q [] f h = tt
