@@ -1,7 +1,6 @@
 -- BUILDING TREES of a description without white space: one block for each way in which an element can stand. To be believed; definitions only.
 --   text s                    a text; the byte `<`, which no good text has, is left out
---   word w                    a fixed word
---   leaf t, node ks           an element with a text; an element that holds elements
+--   leaf s, node ks           an element with the text s; an element that holds elements
 --   t before ks, t given ks, absent ks, only t    children in order; `?` that is there; `?` that is not; the last child
 --   this t, other t           `|`: the first of the two; the second
 --   several t ts              one or more: the trees ts; t stands in where there is none, which no message for a good list needs
