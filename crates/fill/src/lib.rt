@@ -5,7 +5,9 @@ ghost use Prim.Native.Nat.{_+_, _*_, _≤_, _<_};
 ghost use lib.ListN.{length};
 ghost use Rattle.profile.specs.Limits.{mostBytes};
 ghost use Rattle.tree.specs.declared.Event.{Event};
-ghost use Rattle.state.specs.Fill.{countNumbers, sumNumbers, slipNumbers, rowNumbers, putIf, filledSlips, filledRows, stepOf, Carried, Within, Fit};
+ghost use Rattle.state.specs.Fill.{countNumbers, sumNumbers, slipNumbers, rowNumbers, putIf, filledSlips, filledRows, carryStep, stepOf, Carried, Within, Sane, Fit};
+ghost use Rattle.kept.specs.Kept.{keptLength, stateOf};
+use message::Told;
 use profile::Batch;
 use profile::ControlSum;
 use profile::DeclaredCount;
@@ -156,30 +158,32 @@ pub fn put_row(state: State, rows: &mut [u64])
 
 // ─── the step ───
 
-// The state after an event of the message. A row that the event completes is put into its table.
-pub fn on_event(
-    state: State,
-    message: &[u8],
-    slips: &mut [u64],
-    rows: &mut [u64],
-    event: Event,
-) -> State
-    requires { ⌜ (length (now message) ≤ mostBytes) × (event .start + event .length ≤ length (now message)) × (event .place < event .start) × Within (event .place) state × Fit event ⌝ }
-    ensures within { λ r. ⌜ Within (event .start) r ⌝ }
-    ensures exact { λ r. ⌜ stepOf (now (message .entry)) (record { state = state; slips = now (slips .entry); rows = now (rows .entry) }) event
-        ≡ record { state = r; slips = now (slips .exit); rows = now (rows .exit) } ⌝ }
+// The step at an event that is told: a row that it completes is put into its table.
+fn take_step(kept: &mut [u64], slips: &mut [u64], rows: &mut [u64], t: Told)
+    requires { ⌜ (length (now kept) ≡ keptLength) × (t .start ≤ mostBytes) × (t .place < t .start) × Within (t .place) (stateOf (now kept)) × Sane t ⌝ }
+    ensures within { λ _. ⌜ Within (t .start) (stateOf (now (kept .exit))) ⌝ }
+    ensures exact { λ _. ⌜ carryStep (record { state = stateOf (now (kept .entry)); slips = now (slips .entry); rows = now (rows .entry) }) t
+        ≡ record { state = stateOf (now (kept .exit)); slips = now (slips .exit); rows = now (rows .exit) } ⌝ }
 {
-    let t = message::tell(message, event);
+    let state = kept::state_of(kept);
     if t.part == Part::BATCH {
         put_slip(state, slips);
         put_row(state, rows);
-        return state.step(t);
-    }
-    if t.part == Part::TRANSACTION {
+    } else if t.part == Part::TRANSACTION {
         put_slip(state, slips);
-        return state.step(t);
     }
-    state.step(t)
+    kept::keep(state.step(t), kept);
+}
+
+// The step at an event of the message.
+pub fn on_event(kept: &mut [u64], message: &[u8], slips: &mut [u64], rows: &mut [u64], event: Event)
+    requires { ⌜ (length (now kept) ≡ keptLength) × (length (now message) ≤ mostBytes) × (event .start + event .length ≤ length (now message)) × (event .place < event .start) × Within (event .place) (stateOf (now kept)) × Fit event ⌝ }
+    ensures within { λ _. ⌜ Within (event .start) (stateOf (now (kept .exit))) ⌝ }
+    ensures exact { λ _. ⌜ stepOf (now (message .entry)) (record { state = stateOf (now (kept .entry)); slips = now (slips .entry); rows = now (rows .entry) }) event
+        ≡ record { state = stateOf (now (kept .exit)); slips = now (slips .exit); rows = now (rows .exit) } ⌝ }
+{
+    let t = message::tell(message, event);
+    take_step(kept, slips, rows, t);
 }
 
 // Behind the last event: the last rows.

@@ -1,0 +1,95 @@
+-- THE STATE IN A ROW OF NUMBERS, as it is kept between two events. To be believed of nothing but the code: a row that is lent holds the state that `stateOf` reads in it.
+--   keptLength      how many numbers they are
+--   stateOf ns      the state that they tell; headerOf, tallyOf, slipOf its parts
+--   badOf, overOf, countOf, sumOf, faultOf, openOf   a case in two numbers: a mark, 0 for the case that holds nothing, and the number that the case holds
+use Prim.Native.Nat.{ℕ}
+use mathlib.Core.List.{List, [], _∷_}
+use lib.ListN.{getD}
+use Rattle.profile.specs.declared.DeclaredCount.{DeclaredCount}
+use Rattle.profile.specs.declared.DeclaredCount.the-variants.{Count, Absent as NoCount}
+use Rattle.profile.specs.declared.DeclaredSum.{DeclaredSum}
+use Rattle.profile.specs.declared.DeclaredSum.the-variants.{Cents, Absent as NoSum}
+use Rattle.profile.specs.declared.Flaw.the-variants.{Length, Letter, Slash, Number, Date, Code, Shape, CheckDigits}
+use Rattle.state.specs.declared.FirstBad.{FirstBad}
+use Rattle.state.specs.declared.FirstBad.the-variants.{None as NoBad, At as BadAt}
+use Rattle.state.specs.declared.Over.{Over}
+use Rattle.state.specs.declared.Over.the-variants.{No, At as OverAt}
+use Rattle.state.specs.declared.BatchFault.{BatchFault}
+use Rattle.state.specs.declared.BatchFault.the-variants.{None as NoFault, Count as WrongCount, Sum as WrongSum}
+use Rattle.state.specs.declared.Open.{Open}
+use Rattle.state.specs.declared.Open.the-variants.{Nothing, Cents as OpenCents}
+use Rattle.profile.specs.declared.Tally.{Tally}
+use Rattle.state.specs.declared.Header.{Header}
+use Rattle.state.specs.declared.Slip.{Slip}
+use Rattle.state.specs.declared.State.{State}
+use Rattle.state.specs.State.{closeIf}
+
+-- ─── a case in two numbers ───
+
+abbrev pub badOf : ℕ → ℕ → FirstBad
+badOf m p = getD (NoBad ∷ BadAt Length p ∷ BadAt Letter p ∷ BadAt Slash p ∷ BadAt Number p ∷ BadAt Date p ∷ BadAt Code p ∷ BadAt Shape p ∷ []) m (BadAt CheckDigits p)
+
+abbrev pub overOf : ℕ → ℕ → Over
+overOf m p = closeIf m No (OverAt p)
+
+abbrev pub countOf : ℕ → ℕ → DeclaredCount
+countOf m n = closeIf m NoCount (Count (record { 0 = n }))
+
+abbrev pub sumOf : ℕ → ℕ → DeclaredSum
+sumOf m n = closeIf m NoSum (Cents (record { 0 = n }))
+
+abbrev pub faultOf : ℕ → ℕ → BatchFault
+faultOf m p = getD (NoFault ∷ WrongCount p ∷ []) m (WrongSum p)
+
+abbrev pub openOf : ℕ → ℕ → Open
+openOf m n = closeIf m Nothing (OpenCents (record { 0 = n }))
+
+-- ─── the state ───
+
+abbrev pub keptLength : ℕ
+keptLength = 41
+
+-- the numbers in the order of the state's fields
+abbrev pub headerOf : List ℕ → Header
+headerOf ns = record {
+  «declared_count» = countOf (getD ns 8 0) (getD ns 9 0);
+  «count_at» = getD ns 10 0;
+  «declared_sum» = sumOf (getD ns 11 0) (getD ns 12 0);
+  «sum_at» = getD ns 13 0;
+}
+
+abbrev pub tallyOf : List ℕ → Tally
+tallyOf ns = record {
+  closed = record { batches = getD ns 16 0; transactions = record { 0 = getD ns 17 0 }; cents = record { 0 = getD ns 18 0 } };
+  batch = record {
+    count = record { 0 = getD ns 19 0 };
+    sum = record { 0 = getD ns 20 0 };
+    «declared_count» = countOf (getD ns 21 0) (getD ns 22 0);
+    «declared_sum» = sumOf (getD ns 23 0) (getD ns 24 0);
+  };
+}
+
+abbrev pub slipOf : List ℕ → Slip
+slipOf ns = record {
+  «end_to_end» = record { start = getD ns 31 0; length = getD ns 32 0 };
+  mandate = record { start = getD ns 33 0; length = getD ns 34 0 };
+  «debtor_name» = record { start = getD ns 35 0; length = getD ns 36 0 };
+  «debtor_account» = record { start = getD ns 37 0; length = getD ns 38 0 };
+  remittance = record { start = getD ns 39 0; length = getD ns 40 0 };
+}
+
+unfoldable pub stateOf : List ℕ → State
+stateOf ns = record {
+  bad = badOf (getD ns 0 0) (getD ns 1 0);
+  batches = record { count = getD ns 2 0; over = overOf (getD ns 3 0) (getD ns 4 0) };
+  transactions = record { count = getD ns 5 0; over = overOf (getD ns 6 0) (getD ns 7 0) };
+  header = headerOf ns;
+  fault = faultOf (getD ns 14 0) (getD ns 15 0);
+  tally = tallyOf ns;
+  «count_at» = getD ns 25 0;
+  «sum_at» = getD ns 26 0;
+  scheme = getD ns 27 0;
+  sequence = getD ns 28 0;
+  «open» = openOf (getD ns 29 0) (getD ns 30 0);
+  slip = slipOf ns;
+}

@@ -1,0 +1,2 @@
+-- Kept   the state in a row of numbers
+pub mod Kept
