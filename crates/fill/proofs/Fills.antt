@@ -5,7 +5,8 @@
 --   row-none, row-some            no batch is open, or one
 --   slip-small                    the place of a slip is small
 --   told-fits, told-within        what the step asks of an event, and what it keeps
---   event-batch, event-transaction, event-other   the step, by the part of the event
+--   rows-batch, rows-transaction, rows-other   what an event leaves in the tables, by its part
+--   carried, told-step            what is carried behind an event
 use Prim.Native.Nat.{ℕ, _+_, _*_, _-_, _≤_, _<_}
 use native.Mathlib.Omega.{arith}
 use mathlib.Core.Bool.{Bool, true, false}
@@ -97,19 +98,24 @@ module _ (st : State) (out : List ℕ) where
 
 -- ─── the step ───
 
--- what is carried, by the tests whether the event is a batch, and a transaction
-module _ (st : State) (xs ys slips rows : List ℕ) (z w : Bool) where
-  abbrev carried : Carried
-  carried = record { state = st; slips = pick z xs (pick w xs slips); rows = pick z ys rows }
+-- what an event leaves in the tables, by its part; and with the state's step, what is carried behind it
+module _ (st : State) (t : Told) (slips rows : List ℕ) where
+  abbrev entry : Carried
+  entry = record { state = st; slips = slips; rows = rows }
 
-  carry-batch : z ≡ true → carried ≡ record { state = st; slips = xs; rows = ys }
-  carry-batch e = rw e refl
+  pub rows-batch : (xs ys : List ℕ) → t .part ≡ part.batch → xs ≡ filledSlips entry → ys ≡ filledRows entry → (xs ≡ carryStep entry t .slips) × (ys ≡ carryStep entry t .rows)
+  rows-batch xs ys p x y = (rw (eq-eqb (t .part) part.batch p) x, rw (eq-eqb (t .part) part.batch p) y)
 
-  carry-transaction : z ≡ false → w ≡ true → carried ≡ record { state = st; slips = xs; rows = rows }
-  carry-transaction e f = rw (e, f) refl
+  pub rows-transaction : (xs : List ℕ) → (t .part ≡ part.batch → ⊥) → t .part ≡ part.transaction → xs ≡ filledSlips entry
+      → (xs ≡ carryStep entry t .slips) × (rows ≡ carryStep entry t .rows)
+  rows-transaction xs n p x = (rw (ne-eqb (t .part) part.batch n, eq-eqb (t .part) part.transaction p) x, rw (ne-eqb (t .part) part.batch n) refl)
 
-  carry-other : z ≡ false → w ≡ false → carried ≡ record { state = st; slips = slips; rows = rows }
-  carry-other e f = rw (e, f) refl
+  pub rows-other : (t .part ≡ part.batch → ⊥) → (t .part ≡ part.transaction → ⊥) → (slips ≡ carryStep entry t .slips) × (rows ≡ carryStep entry t .rows)
+  rows-other n p = (rw (ne-eqb (t .part) part.batch n, ne-eqb (t .part) part.transaction p) refl, rw (ne-eqb (t .part) part.batch n) refl)
+
+  pub carried : (r : State) (xs ys : List ℕ) → r ≡ step st t → xs ≡ carryStep entry t .slips → ys ≡ carryStep entry t .rows
+      → carryStep entry t ≡ record { state = r; slips = xs; rows = ys }
+  carried r xs ys g x y = rw (g, x, y) refl
 
 module _ (s : Bytes) (e : Event) (t : Told) (f : t ≡ told s e) where
   pub told-fits : (st : State) → (length s ≤ mostBytes) × (e .start + e .length ≤ length s) × (e .place < e .start) × Within (e .place) st × Fit e
@@ -119,25 +125,6 @@ module _ (s : Bytes) (e : Event) (t : Told) (f : t ≡ told s e) where
   pub told-within : (r : State) → Within (t .start) r → Within (e .start) r
   told-within r w = rw f at w
 
-  module _ (st r : State) (slips rows : List ℕ) (g : r ≡ step st t) where
-    abbrev entry : Carried
-    entry = record { state = st; slips = slips; rows = rows }
-
-    abbrev parts : Bool → Bool → Carried
-    parts = carried (step st t) (filledSlips entry) (filledRows entry) slips rows
-
-    taken : stepOf s entry e ≡ parts (is part.batch t) (is part.transaction t)
-    unfolding stepOf
-    taken = ap (carryStep entry) (sym f)
-
-    pub event-batch : (xs ys : List ℕ) → t .part ≡ part.batch → xs ≡ filledSlips entry → ys ≡ filledRows entry → stepOf s entry e ≡ record { state = r; slips = xs; rows = ys }
-    event-batch xs ys p x y = taken ∙ carry-batch (step st t) (filledSlips entry) (filledRows entry) slips rows (is part.batch t) (is part.transaction t) (eq-eqb (t .part) part.batch p) ∙ rw (g, x, y) refl
-
-    pub event-transaction : (xs : List ℕ) → (t .part ≡ part.batch → ⊥) → t .part ≡ part.transaction → xs ≡ filledSlips entry
-        → stepOf s entry e ≡ record { state = r; slips = xs; rows = rows }
-    event-transaction xs n p x =
-        taken ∙ carry-transaction (step st t) (filledSlips entry) (filledRows entry) slips rows _ _ (ne-eqb (t .part) part.batch n) (eq-eqb (t .part) part.transaction p) ∙ rw (g, x) refl
-
-    pub event-other : (t .part ≡ part.batch → ⊥) → (t .part ≡ part.transaction → ⊥) → stepOf s entry e ≡ record { state = r; slips = slips; rows = rows }
-    event-other n p =
-        taken ∙ carry-other (step st t) (filledSlips entry) (filledRows entry) slips rows _ _ (ne-eqb (t .part) part.batch n) (ne-eqb (t .part) part.transaction p) ∙ rw g refl
+  pub told-step : (c d : Carried) → carryStep c t ≡ d → stepOf s c e ≡ d
+  unfolding stepOf
+  told-step c d g = ap (carryStep c) (sym f) ∙ g

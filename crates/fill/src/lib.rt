@@ -158,7 +158,24 @@ pub fn put_row(state: State, rows: &mut [u64])
 
 // ─── the step ───
 
-// The step at an event that is told: a row that it completes is put into its table.
+// The rows that an event completes, put into their tables.
+fn put_rows(state: State, slips: &mut [u64], rows: &mut [u64], t: Told)
+    requires { ⌜ Within mostBytes state ⌝ }
+    ensures slips { λ _. ⌜ now (slips .exit) ≡ carryStep (record { state = state; slips = now (slips .entry); rows = now (rows .entry) }) t .slips ⌝ }
+    ensures rows { λ _. ⌜ now (rows .exit) ≡ carryStep (record { state = state; slips = now (slips .entry); rows = now (rows .entry) }) t .rows ⌝ }
+{
+    if t.part == Part::BATCH {
+        put_slip(state, slips);
+        put_row(state, rows);
+        return;
+    }
+    if t.part == Part::TRANSACTION {
+        put_slip(state, slips);
+        return;
+    }
+}
+
+// The step at an event that is told.
 fn take_step(kept: &mut [u64], slips: &mut [u64], rows: &mut [u64], t: Told)
     requires { ⌜ (length (now kept) ≡ keptLength) × (t .start ≤ mostBytes) × (t .place < t .start) × Within (t .place) (stateOf (now kept)) × Sane t ⌝ }
     ensures within { λ _. ⌜ Within (t .start) (stateOf (now (kept .exit))) ⌝ }
@@ -166,12 +183,7 @@ fn take_step(kept: &mut [u64], slips: &mut [u64], rows: &mut [u64], t: Told)
         ≡ record { state = stateOf (now (kept .exit)); slips = now (slips .exit); rows = now (rows .exit) } ⌝ }
 {
     let state = kept::state_of(kept);
-    if t.part == Part::BATCH {
-        put_slip(state, slips);
-        put_row(state, rows);
-    } else if t.part == Part::TRANSACTION {
-        put_slip(state, slips);
-    }
+    put_rows(state, slips, rows, t);
     kept::keep(state.step(t), kept);
 }
 
