@@ -1,15 +1,14 @@
 -- THE TABLES HOLD THE PROFILE TREE, and what that says of an element and of a row.
 --   document-held      the test, computed
---   kind-small         every kind has a number
 --   Held, held         of an element that the tables hold: its part, kind, tags and first row
 --   Placed, placed; Led, led   of every element and every row
 --   HeldRow, held-row  of a row: its element, and the rows behind it; held-none: where no item is left
-use Prim.Native.Nat.{ℕ, _-_, _<_, _≤_}
+use Prim.Native.Nat.{ℕ, _+_, _-_, _<_, _≤_}
 use mathlib.Core.Bool.{Bool, true, false, not, _&&_}
 use mathlib.Core.List.{[]}
 use mathlib.Core.Path.{_≡_, refl, ap, subst⁻¹, _∙_}
 use lib.Dec.{T, T-not, eqb, leb, ltb, ltb→lt, leb→le, eqb→eq}
-use lib.ListN.{length, getD, length-take, length-drop}
+use lib.ListN.{length, take, drop, getD, length-take, length-drop}
 use native.Mathlib.Omega.{arith}
 use Rattle.laws.specs.Bytes.{same}
 use Rattle.laws.proofs.Tests.{and-l, and-r, and-both}
@@ -29,10 +28,6 @@ use Rattle.table.specs.Held.{holdsElem, holdsItems, skipping, lasting, t
 pub document-held : T (holdsElem 0 Document)
 unfolding elements rows end tags count kindIn elementAt rowAt openTag closeTag kindOf
 document-held = tt
-
-pub kind-small : (e : ℕ) → e < elementCount → getD (getD elements e []) 1 0 < 19
-unfolding elements end
-kind-small e h = ltb→lt (getD (getD elements e []) 1 0) 19 (below elementCount (λ i. ltb (getD (getD elements i []) 1 0) 19) tt e h)
 
 -- ─── an element ───
 
@@ -276,3 +271,26 @@ module _ (x : Element) (p : Placed x) where
   pub close-length : length (closeTag x) ≡ x .end - x .close
   unfolding closeTag
   close-length = simp (length-take, length-drop, tags-are) (omega arith)
+
+-- the stretches of the tags from a start on, of a tag's length
+module _ (i from n : ℕ) (h : i < elementCount) where
+  pub open-stretch : from ≡ elementAt i .«open» → n ≡ elementAt i .close - elementAt i .«open»
+      → (from + n ≤ tagBytes) × (take (from + n - from) (drop from tags) ≡ openTag (elementAt i))
+  unfolding openTag
+  open-stretch a b =
+      let p = placed i (elementAt i) h refl in
+      let q : from + n - from ≡ elementAt i .close - elementAt i .«open» = omega arith in
+      (omega arith, rw (q, a))
+
+  pub close-stretch : from ≡ elementAt i .close → n ≡ elementAt i .end - elementAt i .close
+      → (from + n ≤ tagBytes) × (take (from + n - from) (drop from tags) ≡ closeTag (elementAt i))
+  unfolding closeTag
+  close-stretch a b =
+      let p = placed i (elementAt i) h refl in
+      let q : from + n - from ≡ elementAt i .end - elementAt i .close = omega arith in
+      (omega arith, rw (q, a))
+
+  pub open-end : from ≡ elementAt i .«open» → n ≡ elementAt i .close - elementAt i .«open» → (from + n ≤ tagBytes) × (from + n ≡ elementAt i .close)
+  open-end a b =
+      let p = placed i (elementAt i) h refl in
+      (omega arith, omega arith)

@@ -5,12 +5,12 @@ ghost use mathlib.Core.List.{[]};
 ghost use Prim.Native.Nat.{_-_, _≤_, _<_};
 ghost use lib.ListN.{length, take, drop, getD};
 ghost use Rattle.tree.specs.Form.{common};
-ghost use Rattle.table.specs.Table.{elementCount, rowsEnd, tagBytes, tags, elements, rows, elementAt, rowAt, kindOf, openTag, closeTag};
+ghost use Rattle.table.specs.Table.{elementCount, rowsEnd, tagBytes, tags, rows, elementAt, rowAt, openTag, closeTag};
 use text::Rule;
 use tree::Kind;
 
-// An element: the part that it plays, its kind, the row of its first child, and where its opening tag starts among the tags, where its closing tag starts, and
-// where that ends.
+// An element, as specs/Table has it: the part that it plays, its kind, the row of its first child, and where its opening tag starts among the tags, where its
+// closing tag starts, and where that ends. The code has a function for each of these, and makes no such value.
 pub struct Element {
     pub part: usize,
     pub kind: Kind,
@@ -34,101 +34,423 @@ pub const END: usize = 62;
 const TAGS: [u8; 1132] =
     *b"<Document xmlns=\"urn:iso:std:iso:20022:tech:xsd:pain.008.001.08\"></Document><CstmrDrctDbtInitn></CstmrDrctDbtInitn><GrpHdr></GrpHdr><MsgId></MsgId><CreDtTm></CreDtTm><NbOfTxs></NbOfTxs><CtrlSum></CtrlSum><InitgPty></InitgPty><Nm></Nm><PmtInf></PmtInf><PmtInfId></PmtInfId><PmtMtd></PmtMtd><BtchBookg></BtchBookg><NbOfTxs></NbOfTxs><CtrlSum></CtrlSum><PmtTpInf></PmtTpInf><SvcLvl></SvcLvl><Cd></Cd><LclInstrm></LclInstrm><Cd></Cd><SeqTp></SeqTp><ReqdColltnDt></ReqdColltnDt><Cdtr></Cdtr><Nm></Nm><CdtrAcct></CdtrAcct><Id></Id><IBAN></IBAN><CdtrAgt></CdtrAgt><FinInstnId></FinInstnId><BICFI></BICFI><Othr></Othr><Id></Id><ChrgBr></ChrgBr><CdtrSchmeId></CdtrSchmeId><Id></Id><PrvtId></PrvtId><Othr></Othr><Id></Id><SchmeNm></SchmeNm><Prtry></Prtry><DrctDbtTxInf></DrctDbtTxInf><PmtId></PmtId><InstrId></InstrId><EndToEndId></EndToEndId><InstdAmt Ccy=\"EUR\"></InstdAmt><DrctDbtTx></DrctDbtTx><MndtRltdInf></MndtRltdInf><MndtId></MndtId><DtOfSgntr></DtOfSgntr><DbtrAgt></DbtrAgt><FinInstnId></FinInstnId><BICFI></BICFI><Othr></Othr><Id></Id><Dbtr></Dbtr><Nm></Nm><DbtrAcct></DbtrAcct><Id></Id><IBAN></IBAN><RmtInf></RmtInf><Ustrd></Ustrd>";
 
-// The kinds by number: 0 holds elements, the others are texts of the rules in the order of their names.
-pub fn kind_of(n: usize) -> Kind
-    requires { ⌜ n < 19 ⌝ }
-    ensures { λ r. ⌜ r ≡ kindOf n ⌝ }
+// The part that an element plays.
+pub fn part_of(e: usize) -> usize
+    requires { ⌜ e < elementCount ⌝ }
+    ensures { λ r. ⌜ r ≡ elementAt e .part ⌝ }
 {
-    match n {
-        0 => Kind::Holds,
-        1 => Kind::Text(Rule::Identifier),
-        2 => Kind::Text(Rule::Name),
-        3 => Kind::Text(Rule::Remittance),
-        4 => Kind::Text(Rule::Count),
-        5 => Kind::Text(Rule::Sum),
-        6 => Kind::Text(Rule::Amount),
-        7 => Kind::Text(Rule::Date),
-        8 => Kind::Text(Rule::Time),
-        9 => Kind::Text(Rule::Iban),
-        10 => Kind::Text(Rule::Bic),
-        11 => Kind::Text(Rule::CreditorIdentifier),
-        12 => Kind::Text(Rule::Method),
-        13 => Kind::Text(Rule::Booking),
-        14 => Kind::Text(Rule::Sepa),
-        15 => Kind::Text(Rule::Scheme),
-        16 => Kind::Text(Rule::Sequence),
-        17 => Kind::Text(Rule::Charges),
-        _ => Kind::Text(Rule::NotProvided),
+    match e {
+        0 => 0,
+        1 => 0,
+        2 => 0,
+        3 => 0,
+        4 => 0,
+        5 => 1,
+        6 => 2,
+        7 => 0,
+        8 => 0,
+        9 => 3,
+        10 => 0,
+        11 => 0,
+        12 => 0,
+        13 => 4,
+        14 => 5,
+        15 => 0,
+        16 => 0,
+        17 => 0,
+        18 => 0,
+        19 => 6,
+        20 => 7,
+        21 => 8,
+        22 => 0,
+        23 => 0,
+        24 => 0,
+        25 => 0,
+        26 => 0,
+        27 => 0,
+        28 => 0,
+        29 => 0,
+        30 => 0,
+        31 => 0,
+        32 => 0,
+        33 => 0,
+        34 => 0,
+        35 => 0,
+        36 => 0,
+        37 => 0,
+        38 => 0,
+        39 => 0,
+        40 => 9,
+        41 => 0,
+        42 => 0,
+        43 => 10,
+        44 => 11,
+        45 => 0,
+        46 => 0,
+        47 => 12,
+        48 => 13,
+        49 => 0,
+        50 => 0,
+        51 => 14,
+        52 => 0,
+        53 => 0,
+        54 => 0,
+        55 => 15,
+        56 => 0,
+        57 => 0,
+        58 => 16,
+        59 => 0,
+        _ => 17,
     }
 }
 
-// The numbers of an element, in the order of its fields.
-fn element_numbers(e: usize) -> [usize; 6]
+// Its kind.
+pub fn kind_at(e: usize) -> Kind
     requires { ⌜ e < elementCount ⌝ }
-    ensures { λ r. ⌜ r ≡ getD elements e [] ⌝ }
+    ensures { λ r. ⌜ r ≡ elementAt e .kind ⌝ }
 {
     match e {
-        0 => [0, 0, 0, 0, 65, 76],
-        1 => [0, 0, 1, 76, 95, 115],
-        2 => [0, 0, 4, 115, 123, 132],
-        3 => [0, 1, 62, 132, 139, 147],
-        4 => [0, 8, 62, 147, 156, 166],
-        5 => [1, 4, 62, 166, 175, 185],
-        6 => [2, 5, 62, 185, 194, 204],
-        7 => [0, 0, 9, 204, 214, 225],
-        8 => [0, 2, 62, 225, 229, 234],
-        9 => [3, 0, 10, 234, 242, 251],
-        10 => [0, 1, 62, 251, 261, 272],
-        11 => [0, 12, 62, 272, 280, 289],
-        12 => [0, 13, 62, 289, 300, 312],
-        13 => [4, 4, 62, 312, 321, 331],
-        14 => [5, 5, 62, 331, 340, 350],
-        15 => [0, 0, 24, 350, 360, 371],
-        16 => [0, 0, 27, 371, 379, 388],
-        17 => [0, 14, 62, 388, 392, 397],
-        18 => [0, 0, 28, 397, 408, 420],
-        19 => [6, 15, 62, 420, 424, 429],
-        20 => [7, 16, 62, 429, 436, 444],
-        21 => [8, 7, 62, 444, 458, 473],
-        22 => [0, 0, 29, 473, 479, 486],
-        23 => [0, 2, 62, 486, 490, 495],
-        24 => [0, 0, 30, 495, 505, 516],
-        25 => [0, 0, 31, 516, 520, 525],
-        26 => [0, 9, 62, 525, 531, 538],
-        27 => [0, 0, 32, 538, 547, 557],
-        28 => [0, 0, 33, 557, 569, 582],
-        29 => [0, 10, 62, 582, 589, 597],
-        30 => [0, 0, 35, 597, 603, 610],
-        31 => [0, 18, 62, 610, 614, 619],
-        32 => [0, 17, 62, 619, 627, 636],
-        33 => [0, 0, 36, 636, 649, 663],
-        34 => [0, 0, 37, 663, 667, 672],
-        35 => [0, 0, 38, 672, 680, 689],
-        36 => [0, 0, 39, 689, 695, 702],
-        37 => [0, 11, 62, 702, 706, 711],
-        38 => [0, 0, 41, 711, 720, 730],
-        39 => [0, 14, 62, 730, 737, 745],
-        40 => [9, 0, 42, 745, 759, 774],
-        41 => [0, 0, 49, 774, 781, 789],
-        42 => [0, 1, 62, 789, 798, 808],
-        43 => [10, 1, 62, 808, 820, 833],
-        44 => [11, 6, 62, 833, 853, 864],
-        45 => [0, 0, 51, 864, 875, 887],
-        46 => [0, 0, 52, 887, 900, 914],
-        47 => [12, 1, 62, 914, 922, 931],
-        48 => [13, 7, 62, 931, 942, 954],
-        49 => [0, 0, 54, 954, 963, 973],
-        50 => [0, 0, 55, 973, 985, 998],
-        51 => [14, 10, 62, 998, 1005, 1013],
-        52 => [0, 0, 57, 1013, 1019, 1026],
-        53 => [0, 18, 62, 1026, 1030, 1035],
-        54 => [0, 0, 58, 1035, 1041, 1048],
-        55 => [15, 2, 62, 1048, 1052, 1057],
-        56 => [0, 0, 59, 1057, 1067, 1078],
-        57 => [0, 0, 60, 1078, 1082, 1087],
-        58 => [16, 9, 62, 1087, 1093, 1100],
-        59 => [0, 0, 61, 1100, 1108, 1117],
-        _ => [17, 3, 62, 1117, 1124, 1132],
+        0 => Kind::Holds,
+        1 => Kind::Holds,
+        2 => Kind::Holds,
+        3 => Kind::Text(Rule::Identifier),
+        4 => Kind::Text(Rule::Time),
+        5 => Kind::Text(Rule::Count),
+        6 => Kind::Text(Rule::Sum),
+        7 => Kind::Holds,
+        8 => Kind::Text(Rule::Name),
+        9 => Kind::Holds,
+        10 => Kind::Text(Rule::Identifier),
+        11 => Kind::Text(Rule::Method),
+        12 => Kind::Text(Rule::Booking),
+        13 => Kind::Text(Rule::Count),
+        14 => Kind::Text(Rule::Sum),
+        15 => Kind::Holds,
+        16 => Kind::Holds,
+        17 => Kind::Text(Rule::Sepa),
+        18 => Kind::Holds,
+        19 => Kind::Text(Rule::Scheme),
+        20 => Kind::Text(Rule::Sequence),
+        21 => Kind::Text(Rule::Date),
+        22 => Kind::Holds,
+        23 => Kind::Text(Rule::Name),
+        24 => Kind::Holds,
+        25 => Kind::Holds,
+        26 => Kind::Text(Rule::Iban),
+        27 => Kind::Holds,
+        28 => Kind::Holds,
+        29 => Kind::Text(Rule::Bic),
+        30 => Kind::Holds,
+        31 => Kind::Text(Rule::NotProvided),
+        32 => Kind::Text(Rule::Charges),
+        33 => Kind::Holds,
+        34 => Kind::Holds,
+        35 => Kind::Holds,
+        36 => Kind::Holds,
+        37 => Kind::Text(Rule::CreditorIdentifier),
+        38 => Kind::Holds,
+        39 => Kind::Text(Rule::Sepa),
+        40 => Kind::Holds,
+        41 => Kind::Holds,
+        42 => Kind::Text(Rule::Identifier),
+        43 => Kind::Text(Rule::Identifier),
+        44 => Kind::Text(Rule::Amount),
+        45 => Kind::Holds,
+        46 => Kind::Holds,
+        47 => Kind::Text(Rule::Identifier),
+        48 => Kind::Text(Rule::Date),
+        49 => Kind::Holds,
+        50 => Kind::Holds,
+        51 => Kind::Text(Rule::Bic),
+        52 => Kind::Holds,
+        53 => Kind::Text(Rule::NotProvided),
+        54 => Kind::Holds,
+        55 => Kind::Text(Rule::Name),
+        56 => Kind::Holds,
+        57 => Kind::Holds,
+        58 => Kind::Text(Rule::Iban),
+        59 => Kind::Holds,
+        _ => Kind::Text(Rule::Remittance),
+    }
+}
+
+// The row of its first child.
+pub fn first_of(e: usize) -> usize
+    requires { ⌜ e < elementCount ⌝ }
+    ensures { λ r. ⌜ r ≡ elementAt e .first ⌝ }
+{
+    match e {
+        0 => 0,
+        1 => 1,
+        2 => 4,
+        3 => 62,
+        4 => 62,
+        5 => 62,
+        6 => 62,
+        7 => 9,
+        8 => 62,
+        9 => 10,
+        10 => 62,
+        11 => 62,
+        12 => 62,
+        13 => 62,
+        14 => 62,
+        15 => 24,
+        16 => 27,
+        17 => 62,
+        18 => 28,
+        19 => 62,
+        20 => 62,
+        21 => 62,
+        22 => 29,
+        23 => 62,
+        24 => 30,
+        25 => 31,
+        26 => 62,
+        27 => 32,
+        28 => 33,
+        29 => 62,
+        30 => 35,
+        31 => 62,
+        32 => 62,
+        33 => 36,
+        34 => 37,
+        35 => 38,
+        36 => 39,
+        37 => 62,
+        38 => 41,
+        39 => 62,
+        40 => 42,
+        41 => 49,
+        42 => 62,
+        43 => 62,
+        44 => 62,
+        45 => 51,
+        46 => 52,
+        47 => 62,
+        48 => 62,
+        49 => 54,
+        50 => 55,
+        51 => 62,
+        52 => 57,
+        53 => 62,
+        54 => 58,
+        55 => 62,
+        56 => 59,
+        57 => 60,
+        58 => 62,
+        59 => 61,
+        _ => 62,
+    }
+}
+
+// How many bytes its opening tag has.
+pub fn open_length(e: usize) -> usize
+    requires { ⌜ e < elementCount ⌝ }
+    ensures { λ r. ⌜ r ≡ elementAt e .close - elementAt e .«open» ⌝ }
+{
+    match e {
+        0 => 65,
+        1 => 19,
+        2 => 8,
+        3 => 7,
+        4 => 9,
+        5 => 9,
+        6 => 9,
+        7 => 10,
+        8 => 4,
+        9 => 8,
+        10 => 10,
+        11 => 8,
+        12 => 11,
+        13 => 9,
+        14 => 9,
+        15 => 10,
+        16 => 8,
+        17 => 4,
+        18 => 11,
+        19 => 4,
+        20 => 7,
+        21 => 14,
+        22 => 6,
+        23 => 4,
+        24 => 10,
+        25 => 4,
+        26 => 6,
+        27 => 9,
+        28 => 12,
+        29 => 7,
+        30 => 6,
+        31 => 4,
+        32 => 8,
+        33 => 13,
+        34 => 4,
+        35 => 8,
+        36 => 6,
+        37 => 4,
+        38 => 9,
+        39 => 7,
+        40 => 14,
+        41 => 7,
+        42 => 9,
+        43 => 12,
+        44 => 20,
+        45 => 11,
+        46 => 13,
+        47 => 8,
+        48 => 11,
+        49 => 9,
+        50 => 12,
+        51 => 7,
+        52 => 6,
+        53 => 4,
+        54 => 6,
+        55 => 4,
+        56 => 10,
+        57 => 4,
+        58 => 6,
+        59 => 8,
+        _ => 7,
+    }
+}
+
+// How many bytes its closing tag has.
+pub fn close_length(e: usize) -> usize
+    requires { ⌜ e < elementCount ⌝ }
+    ensures { λ r. ⌜ r ≡ elementAt e .end - elementAt e .close ⌝ }
+{
+    match e {
+        0 => 11,
+        1 => 20,
+        2 => 9,
+        3 => 8,
+        4 => 10,
+        5 => 10,
+        6 => 10,
+        7 => 11,
+        8 => 5,
+        9 => 9,
+        10 => 11,
+        11 => 9,
+        12 => 12,
+        13 => 10,
+        14 => 10,
+        15 => 11,
+        16 => 9,
+        17 => 5,
+        18 => 12,
+        19 => 5,
+        20 => 8,
+        21 => 15,
+        22 => 7,
+        23 => 5,
+        24 => 11,
+        25 => 5,
+        26 => 7,
+        27 => 10,
+        28 => 13,
+        29 => 8,
+        30 => 7,
+        31 => 5,
+        32 => 9,
+        33 => 14,
+        34 => 5,
+        35 => 9,
+        36 => 7,
+        37 => 5,
+        38 => 10,
+        39 => 8,
+        40 => 15,
+        41 => 8,
+        42 => 10,
+        43 => 13,
+        44 => 11,
+        45 => 12,
+        46 => 14,
+        47 => 9,
+        48 => 12,
+        49 => 10,
+        50 => 13,
+        51 => 8,
+        52 => 7,
+        53 => 5,
+        54 => 7,
+        55 => 5,
+        56 => 11,
+        57 => 5,
+        58 => 7,
+        59 => 9,
+        _ => 8,
+    }
+}
+
+// Where its opening tag starts among the tags; its closing tag stands behind that.
+fn open_start(e: usize) -> usize
+    requires { ⌜ e < elementCount ⌝ }
+    ensures { λ r. ⌜ r ≡ elementAt e .«open» ⌝ }
+{
+    match e {
+        0 => 0,
+        1 => 76,
+        2 => 115,
+        3 => 132,
+        4 => 147,
+        5 => 166,
+        6 => 185,
+        7 => 204,
+        8 => 225,
+        9 => 234,
+        10 => 251,
+        11 => 272,
+        12 => 289,
+        13 => 312,
+        14 => 331,
+        15 => 350,
+        16 => 371,
+        17 => 388,
+        18 => 397,
+        19 => 420,
+        20 => 429,
+        21 => 444,
+        22 => 473,
+        23 => 486,
+        24 => 495,
+        25 => 516,
+        26 => 525,
+        27 => 538,
+        28 => 557,
+        29 => 582,
+        30 => 597,
+        31 => 610,
+        32 => 619,
+        33 => 636,
+        34 => 663,
+        35 => 672,
+        36 => 689,
+        37 => 702,
+        38 => 711,
+        39 => 730,
+        40 => 745,
+        41 => 774,
+        42 => 789,
+        43 => 808,
+        44 => 833,
+        45 => 864,
+        46 => 887,
+        47 => 914,
+        48 => 931,
+        49 => 954,
+        50 => 973,
+        51 => 998,
+        52 => 1013,
+        53 => 1026,
+        54 => 1035,
+        55 => 1048,
+        56 => 1057,
+        57 => 1078,
+        58 => 1087,
+        59 => 1100,
+        _ => 1117,
     }
 }
 
@@ -203,29 +525,6 @@ fn row_numbers(k: usize) -> [usize; 3]
     }
 }
 
-// The element with a number.
-pub fn element_at(e: usize) -> Element
-    requires { ⌜ e < elementCount ⌝ }
-    ensures { λ r. ⌜ r ≡ elementAt e ⌝ }
-{
-    let x = element_numbers(e);
-    let part = x[0];
-    let number = x[1];
-    let kind = kind_of(number);
-    let first = x[2];
-    let open = x[3];
-    let close = x[4];
-    let end = x[5];
-    Element {
-        part,
-        kind,
-        first,
-        open,
-        close,
-        end,
-    }
-}
-
 // The row with a number.
 pub fn row_at(k: usize) -> Row
     requires { ⌜ k < rowsEnd ⌝ }
@@ -251,21 +550,21 @@ fn agrees(s: &[u8], at: usize, from: usize, to: usize) -> usize
 }
 
 // How many bytes of an element's opening tag stand at a place.
-pub fn opens(s: &[u8], at: usize, e: Element) -> usize
-    requires { ⌜ (at ≤ length (now s)) × ((e .«open» ≤ e .close) × (e .close ≤ tagBytes)) ⌝ }
-    ensures { λ r. ⌜ r ≡ common (drop at (now (s .entry))) (openTag e) ⌝ }
+pub fn opens(s: &[u8], at: usize, e: usize) -> usize
+    requires { ⌜ (at ≤ length (now s)) × (e < elementCount) ⌝ }
+    ensures { λ r. ⌜ r ≡ common (drop at (now (s .entry))) (openTag (elementAt e)) ⌝ }
 {
-    let from = e.open;
-    let to = e.close;
-    agrees(s, at, from, to)
+    let from = open_start(e);
+    let n = open_length(e);
+    agrees(s, at, from, from + n)
 }
 
 // How many bytes of its closing tag.
-pub fn closes(s: &[u8], at: usize, e: Element) -> usize
-    requires { ⌜ (at ≤ length (now s)) × ((e .close ≤ e .end) × (e .end ≤ tagBytes)) ⌝ }
-    ensures { λ r. ⌜ r ≡ common (drop at (now (s .entry))) (closeTag e) ⌝ }
+pub fn closes(s: &[u8], at: usize, e: usize) -> usize
+    requires { ⌜ (at ≤ length (now s)) × (e < elementCount) ⌝ }
+    ensures { λ r. ⌜ r ≡ common (drop at (now (s .entry))) (closeTag (elementAt e)) ⌝ }
 {
-    let from = e.close;
-    let to = e.end;
-    agrees(s, at, from, to)
+    let from = open_start(e) + open_length(e);
+    let n = close_length(e);
+    agrees(s, at, from, from + n)
 }
