@@ -7,6 +7,8 @@
 --   going-child            a child was read; going-lost: it was not
 --   going-close            no child is left
 --   element-read           an element: its run, its event, its children
+--   Kept                   what a turn keeps
+--   fine-from, fine-ended, closed-fine, room-is   of what is fine behind a place, and of the room for a tag
 use Prim.Native.Nat.{ℕ, zero, suc, _+_, _-_, _<_, _≤_, max}
 use native.Mathlib.Nat.{not-suc-le-zero, zero-max}
 use native.Mathlib.Omega.{arith}
@@ -22,12 +24,12 @@ use Rattle.laws.specs.Bytes.{Bytes, span}
 use Rattle.laws.proofs.Tests.{eqb-cases, eqb-comm, bool-cases}
 use Rattle.tree.specs.declared.Kind.{Kind}
 use Rattle.tree.specs.declared.Kind.the-variants.{Holds}
-use Rattle.tree.specs.declared.Event.{Event}
 use Rattle.tree.specs.Form.{How, Elem, Items, none, item, event, part, kind, items, inRun, opening, closing, skips, after, common}
 use Rattle.tree.specs.Tags.{Eat, ate, miss, oneMore, eat, Choice, stop, close, child, far, closes, choose}
 use Rattle.state.specs.declared.State.{State}
 use Rattle.state.specs.Fill.{Carried, stepOf, Within}
 use Rattle.state.proofs.Bounds.{within-more}
+use Rattle.kept.specs.Kept.{stateOf}
 use Rattle.table.specs.declared.Element.{Element}
 use Rattle.table.specs.declared.Row.{Row}
 use Rattle.reader.specs.declared.walk.Reading.{Reading}
@@ -36,9 +38,10 @@ use Rattle.table.specs.Table as table
 use Rattle.table.specs.Held.{holdsElem, holdsItems}
 use Rattle.reader.specs.Walk.{At, ended, halts, childrenAt, elementAt, othersAt, stepAt}
 use Rattle.reader.specs.Told.{told, closed, pick, Fine, Ready}
+use Rattle.reader.specs.Read.{carried}
 use Rattle.scan.proofs.Scans.{common-le, common-in}
 use Rattle.reader.proofs.Walks.{children-is}
-use Rattle.table.proofs.Held.{Held, held, HeldRow, held-row, held-none, Placed, placed, open-length, close-length}
+use Rattle.table.proofs.Held.{Held, held, HeldRow, held-row, held-none, placed, open-length, close-length}
 
 -- ─── a word at a place ───
 
@@ -103,9 +106,6 @@ choose-child h d is g s r e = rw (e, choose)
 
 -- ─── the loop ───
 
-abbrev pub carry : State → List ℕ → List ℕ → Carried
-carry st slips rows = record { state = st; slips = slips; rows = rows }
-
 -- for a message s, and what the children of c from `from` on come to with the state a₀
 module _ (s : Bytes) where
   abbrev pub Reads : Type 0
@@ -137,8 +137,8 @@ module _ (s : Bytes) where
   }
 
   -- at the row k, whose element is tried at `at`
-  module _ (r₀ : Reads) (c : Elem) (k at far′ : ℕ) (a : Carried) (r : Row) (y : Element) (n : ℕ) (small : k < table.rowsEnd) (q : r ≡ table.rowAt k) (w : y ≡ table.elementAt (r .element))
-      (o : n ≡ common (drop at s) (table.openTag y)) where
+  module _ (r₀ : Reads) (c : Elem) (k at far′ : ℕ) (a : Carried) (r : Row) (n l : ℕ) (small : k < table.rowsEnd) (q : r ≡ table.rowAt k)
+      (o : n ≡ common (drop at s) (table.openTag (table.elementAt (r .element)))) (w : l ≡ table.elementAt (r .element) .close - table.elementAt (r .element) .«open») where
     -- what the rows hold there
     pub record Tried (g : Going r₀ c k at far′ a) : Type 0 where
       pub how : How
@@ -158,20 +158,17 @@ module _ (s : Bytes) where
     kept : (g : Going r₀ c k at far′ a) → Held (r .element) (tried g .elem)
     kept g = held (r .element) (tried g .elem) (subst (λ (x : Row). T (holdsElem (x .element) (tried g .elem))) (sym q) (tried g .row .child))
 
-    tag : (g : Going r₀ c k at far′ a) → table.openTag y ≡ opening (tried g .elem)
-    tag g = ap table.openTag w ∙ kept g .open-tag
-
     agreed : (g : Going r₀ c k at far′ a) → common (drop at s) (opening (tried g .elem)) ≡ n
-    agreed g = ap (common (drop at s)) (sym (tag g)) ∙ sym o
+    agreed g = ap (common (drop at s)) (sym (kept g .open-tag)) ∙ sym o
 
-    len : (g : Going r₀ c k at far′ a) → length (opening (tried g .elem)) ≡ y .close - y .«open»
-    len g = ap length (sym (tag g)) ∙ open-length y (placed (r .element) y (kept g .small) w)
+    len : (g : Going r₀ c k at far′ a) → length (opening (tried g .elem)) ≡ l
+    len g = ap length (sym (kept g .open-tag)) ∙ open-length (table.elementAt (r .element)) (placed (r .element) (table.elementAt (r .element)) (kept g .small) refl) ∙ sym w
 
-    missed : (g : Going r₀ c k at far′ a) → n < y .close - y .«open» → eat (opening (tried g .elem)) (drop at s) ≡ miss n
-    missed g l = eat-part (opening (tried g .elem)) (drop at s) (omega (arith, agreed g, len g)) ∙ ap miss (agreed g)
+    missed : (g : Going r₀ c k at far′ a) → n < l → eat (opening (tried g .elem)) (drop at s) ≡ miss n
+    missed g b = eat-part (opening (tried g .elem)) (drop at s) (omega (arith, agreed g, len g)) ∙ ap miss (agreed g)
 
-    pub going-skip : n < y .close - y .«open» → k < r .other → (f : ℕ) → f ≡ max far′ (at + n) → Going r₀ c k at far′ a → Going r₀ c (r .other) at f a
-    going-skip l u f e g = go (skips-or (tried g .how))
+    pub going-skip : n < l → k < r .other → (f : ℕ) → f ≡ max far′ (at + n) → Going r₀ c k at far′ a → Going r₀ c (r .other) at f a
+    going-skip b u f e g = go (skips-or (tried g .how))
       where
         t : Tried g
         t = tried g
@@ -184,12 +181,12 @@ module _ (s : Bytes) where
           gap = max (g .gap) n;
           far-is = omega (arith, e, g .far-is);
           goes = g .goes ∙ ap (λ (is : Items). stepFrom a c at (far (g .gap) (choose is (closing c) (drop at s)))) (t .is)
-              ∙ ap (λ (x : Choice). stepFrom a c at (far (g .gap) x)) (choose-skip (t .how) (t .elem) (t .rest) (closing c) (drop at s) n x (missed g l))
+              ∙ ap (λ (x : Choice). stepFrom a c at (far (g .gap) x)) (choose-skip (t .how) (t .elem) (t .rest) (closing c) (drop at s) n x (missed g b))
               ∙ ap (stepFrom a c at) (far-far (g .gap) n (choose (t .rest) (closing c) (drop at s)));
         }
 
-    pub going-stuck : n < y .close - y .«open» → r .other ≤ k → (f : ℕ) → f ≡ max far′ (at + n) → Going r₀ c k at far′ a → r₀ ≡ halts f
-    going-stuck l u f e g = go (skips-or (tried g .how))
+    pub going-stuck : n < l → r .other ≤ k → (f : ℕ) → f ≡ max far′ (at + n) → Going r₀ c k at far′ a → r₀ ≡ halts f
+    going-stuck b u f e g = go (skips-or (tried g .how))
       where
         t : Tried g
         t = tried g
@@ -198,42 +195,39 @@ module _ (s : Bytes) where
         go (inl x) = absurd (omega (arith, t .row .other x .0, ap (λ (y : Row). y .other) q))
         go (inr x) =
             g .goes ∙ ap (λ (is : Items). stepFrom a c at (far (g .gap) (choose is (closing c) (drop at s)))) (t .is)
-            ∙ ap (λ (x : Choice). stepFrom a c at (far (g .gap) x)) (choose-stop (t .how) (t .elem) (t .rest) (closing c) (drop at s) n x (missed g l))
+            ∙ ap (λ (x : Choice). stepFrom a c at (far (g .gap) x)) (choose-stop (t .how) (t .elem) (t .rest) (closing c) (drop at s) n x (missed g b))
             ∙ ap halts (omega (arith, e, g .far-is))
 
     -- the tag stands there whole: what is to come is the element, and then the other children
-    whole : (g : Going r₀ c k at far′ a) → y .close - y .«open» ≤ n
+    whole : (g : Going r₀ c k at far′ a) → l ≤ n
         → r₀ ≡ othersAt Carried (stepOf s) s (after (tried g .how) (tried g .elem) (tried g .rest)) c (oneAt a (tried g .elem) at)
-    whole g l =
+    whole g b =
         let t : Tried g = tried g in
         let u = eat-whole (opening (t .elem)) (drop at s) (omega (arith, agreed g, len g)) in
         g .goes ∙ ap (λ (is : Items). stepFrom a c at (far (g .gap) (choose is (closing c) (drop at s)))) (t .is)
         ∙ ap (λ (x : Choice). stepFrom a c at (far (g .gap) x)) (choose-child (t .how) (t .elem) (t .rest) (closing c) (drop at s) (u .0) (u .1))
 
-    -- it was read: x came of it, with what the tables then held
-    module _ (l : y .close - y .«open» ≤ n) (x : Reading) (slips rows : List ℕ)
-        (ih : (d : Elem) → T (holdsElem (r .element) d) → told s x slips rows ≡ oneAt a d at) where
-      read-as : (g : Going r₀ c k at far′ a) → told s x slips rows ≡ oneAt a (tried g .elem) at
+    -- it was read: x came of it, and b was then carried
+    module _ (u : l ≤ n) (x : Reading) (b : Carried) (ih : (d : Elem) → T (holdsElem (r .element) d) → told s x b ≡ oneAt a d at) where
+      read-as : (g : Going r₀ c k at far′ a) → told s x b ≡ oneAt a (tried g .elem) at
       read-as g = ih (tried g .elem) (subst (λ (z : Row). T (holdsElem (z .element) (tried g .elem))) (sym q) (tried g .row .child))
 
       pub going-lost : (p : ℕ) → x ≡ Stuck p → Going r₀ c k at far′ a → r₀ ≡ halts p
       going-lost p e g =
           let t : Tried g = tried g in
-          whole g l ∙ ap (othersAt Carried (stepOf s) s (after (t .how) (t .elem) (t .rest)) c) (sym (read-as g) ∙ ap (λ (z : Reading). told s z slips rows) e)
+          whole g u ∙ ap (othersAt Carried (stepOf s) s (after (t .how) (t .elem) (t .rest)) c) (sym (read-as g) ∙ ap (λ (z : Reading). told s z b) e)
 
-      pub going-child : (p : ℕ) (st : State) (at′ : ℕ) → x ≡ Ended p st → at′ ≡ p + span (inRun Holds) (drop p s) → Going r₀ c k at far′ a
-          → Going r₀ c (r .next) at′ at′ (carry st slips rows)
-      going-child p st at′ e v g =
+      pub going-child : (p at′ : ℕ) → x ≡ Ended p → at′ ≡ p + span (inRun Holds) (drop p s) → Going r₀ c k at far′ a → Going r₀ c (r .next) at′ at′ b
+      going-child p at′ e v g =
           let t : Tried g = tried g in
           let is : Items = after (t .how) (t .elem) (t .rest) in
-          let b : Carried = carry st slips rows in
           record {
             left = is;
             hold = subst (λ (z : Row). T (holdsItems (z .next) is)) (sym q) (t .row .next);
             gap = 0;
             far-is = omega arith;
             goes =
-                whole g l ∙ ap (othersAt Carried (stepOf s) s is c) (sym (read-as g) ∙ ap (λ (z : Reading). told s z slips rows) e)
+                whole g u ∙ ap (othersAt Carried (stepOf s) s is c) (sym (read-as g) ∙ ap (λ (z : Reading). told s z b) e)
                 ∙ ap (λ (j : ℕ). childrenAt Carried (stepOf s) s b is c j) (sym v)
                 ∙ children-is Carried (stepOf s) s b is c at′ ∙ ap (stepFrom b c at′) (sym (far-zero (choose is (closing c) (drop at′ s))));
           }
@@ -246,23 +240,19 @@ module _ (s : Bytes) where
   close-whole : (a : Carried) (c : Elem) (at m : ℕ) (r : Bytes) (x : Eat) → x ≡ ate r → stepFrom a c at (far m (closes x)) ≡ ended (at + length (closing c)) a
   close-whole a c at m r x e = ap (λ (z : Eat). stepFrom a c at (far m (closes z))) e
 
-  closed-part : (e far′ at : ℕ) (st : State) → (let t = table.closeTag (table.elementAt e) in common (drop at s) t < length t)
-      → closed s e far′ at st ≡ Stuck (max far′ (at + common (drop at s) (table.closeTag (table.elementAt e))))
+  closed-part : (e far′ at : ℕ) → (let t = table.closeTag (table.elementAt e) in common (drop at s) t < length t)
+      → closed s e far′ at ≡ Stuck (max far′ (at + common (drop at s) (table.closeTag (table.elementAt e))))
   unfolding closed
-  closed-part e far′ at st l = rw (lt-ltb _ _ l)
+  closed-part e far′ at l = rw (lt-ltb _ _ l)
 
-  closed-whole : (e far′ at : ℕ) (st : State) → (let t = table.closeTag (table.elementAt e) in length t ≤ common (drop at s) t)
-      → closed s e far′ at st ≡ Ended (at + common (drop at s) (table.closeTag (table.elementAt e))) st
+  closed-whole : (e far′ at : ℕ) → (let t = table.closeTag (table.elementAt e) in length t ≤ common (drop at s) t)
+      → closed s e far′ at ≡ Ended (at + common (drop at s) (table.closeTag (table.elementAt e)))
   unfolding closed
-  closed-whole e far′ at st l = rw (le-ltb _ _ l)
+  closed-whole e far′ at l = rw (le-ltb _ _ l)
 
-  pub going-close : (r₀ : Reads) (e : ℕ) (c : Elem) (k at far′ : ℕ) (st : State) (slips rows : List ℕ) → T (holdsElem e c) → table.rowsEnd ≤ k
-      → Going r₀ c k at far′ (carry st slips rows) → told s (closed s e far′ at st) slips rows ≡ r₀
-  going-close r₀ e c k at far′ st slips rows t l g = go (g .left) (g .hold) refl
+  pub going-close : (r₀ : Reads) (e : ℕ) (c : Elem) (k at far′ : ℕ) (a : Carried) → T (holdsElem e c) → table.rowsEnd ≤ k → Going r₀ c k at far′ a → told s (closed s e far′ at) a ≡ r₀
+  going-close r₀ e c k at far′ a t l g = go (g .left) (g .hold) refl
     where
-      a : Carried
-      a = carry st slips rows
-
       tag : table.closeTag (table.elementAt e) ≡ closing c
       tag = held e c t .close-tag
 
@@ -272,65 +262,68 @@ module _ (s : Bytes) where
       from-none : g .left ≡ none → r₀ ≡ stepFrom a c at (far (g .gap) (closes (eat (closing c) (drop at s))))
       from-none q = g .goes ∙ ap (λ (is : Items). stepFrom a c at (far (g .gap) (choose is (closing c) (drop at s)))) q
 
-      ends : g .left ≡ none → Dec (n < length (closing c)) → told s (closed s e far′ at st) slips rows ≡ r₀
+      ends : g .left ≡ none → Dec (n < length (closing c)) → told s (closed s e far′ at) a ≡ r₀
       ends q (yes h) =
-          ap (λ (z : Reading). told s z slips rows) (closed-part e far′ at st (rw tag h))
+          ap (λ (z : Reading). told s z a) (closed-part e far′ at (rw tag h))
           ∙ ap (λ (w : Bytes). halts (max far′ (at + common (drop at s) w))) tag
           ∙ ap halts (omega (arith, g .far-is))
           ∙ sym (from-none q ∙ close-choice a c at (g .gap) n (eat (closing c) (drop at s)) (eat-part (closing c) (drop at s) h))
       ends q (no h) =
           let u = eat-whole (closing c) (drop at s) (omega arith) in
-          ap (λ (z : Reading). told s z slips rows) (closed-whole e far′ at st (rw tag (omega arith)))
+          ap (λ (z : Reading). told s z a) (closed-whole e far′ at (rw tag (omega arith)))
           ∙ ap (λ (w : Bytes). ended (at + common (drop at s) w) a) tag
           ∙ ap (λ (j : ℕ). ended (at + j) a) (omega (arith, common-le (drop at s) (closing c)))
           ∙ sym (from-none q ∙ close-whole a c at (g .gap) (u .0) (eat (closing c) (drop at s)) (u .1))
 
-      go : (is : Items) → T (holdsItems k is) → g .left ≡ is → told s (closed s e far′ at st) slips rows ≡ r₀
+      go : (is : Items) → T (holdsItems k is) → g .left ≡ is → told s (closed s e far′ at) a ≡ r₀
       go none y q = ends q (decLt n (length (closing c)))
       go (item h d is) y q = absurd (omega (arith, held-row k h d is y .small))
 
   -- ─── an element ───
 
-  pub element-read : (e at start end : ℕ) (x : Element) (v : Event) (st nx : State) (slips rows slips₁ rows₁ : List ℕ) (o : Reads) → e < table.elementCount → x ≡ table.elementAt e
-      → start ≡ at + (x .close - x .«open») → end ≡ start + span (inRun (x .kind)) (drop start s)
-      → v ≡ event (x .part) (x .kind) at start (end - start)
-      → stepOf s (carry st slips rows) v ≡ carry nx slips₁ rows₁
-      → ((c : Elem) → T (holdsElem e c) → o ≡ kidsFrom (carry nx slips₁ rows₁) c end)
-      → (c : Elem) → T (holdsElem e c) → o ≡ oneAt (carry st slips rows) c at
-  element-read e at start end x v st nx slips rows slips₁ rows₁ o h q u w y k ih c t =
+  pub element-read : (e at start end pt : ℕ) (kd : Kind) (a b : Carried) (o : Reads) → e < table.elementCount → pt ≡ table.elementAt e .part → kd ≡ table.elementAt e .kind
+      → start ≡ at + (table.elementAt e .close - table.elementAt e .«open») → end ≡ start + span (inRun kd) (drop start s)
+      → stepOf s a (event pt kd at start (end - start)) ≡ b
+      → ((c : Elem) → T (holdsElem e c) → o ≡ kidsFrom b c end)
+      → (c : Elem) → T (holdsElem e c) → o ≡ oneAt a c at
+  element-read e at start end pt kd a b o h pt-is kd-is u w k ih c t =
       let g : Held e c = held e c t in
-      let len : length (opening c) ≡ x .close - x .«open» = ap length (sym (ap table.openTag q ∙ g .open-tag)) ∙ open-length x (placed e x h q) in
+      let x : Element = table.elementAt e in
+      let len : length (opening c) ≡ x .close - x .«open» = ap length (sym (g .open-tag)) ∙ open-length x (placed e x h refl) in
       let here : start ≡ at + length (opening c) = u ∙ ap (λ (j : ℕ). at + j) (sym len) in
-      let kd : x .kind ≡ kind c = ap (λ (y : Element). y .kind) q ∙ g .is-kind in
-      let pt : x .part ≡ part c = ap (λ (y : Element). y .part) q ∙ g .plays in
+      let kd-c : kd ≡ kind c = kd-is ∙ g .is-kind in
+      let pt-c : pt ≡ part c = pt-is ∙ g .plays in
       let n : ℕ = span (inRun (kind c)) (drop (at + length (opening c)) s) in
-      let there : end ≡ at + length (opening c) + n = w ∙ ap (λ (K : Kind). start + span (inRun K) (drop start s)) kd ∙ ap (λ (j : ℕ). j + span (inRun (kind c)) (drop j s)) here in
+      let there : end ≡ at + length (opening c) + n = w ∙ ap (λ (K : Kind). start + span (inRun K) (drop start s)) kd-c ∙ ap (λ (j : ℕ). j + span (inRun (kind c)) (drop j s)) here in
       let long : end - start ≡ n = omega (arith, there, here) in
-      let ev : v ≡ event (part c) (kind c) at (at + length (opening c)) n =
-      y ∙ ap (λ (p : ℕ). event p (x .kind) at start (end - start)) pt ∙ ap (λ (K : Kind). event (part c) K at start (end - start)) kd
-      ∙ ap (λ (j : ℕ). event (part c) (kind c) at j (end - start)) here ∙ ap (λ (j : ℕ). event (part c) (kind c) at (at + length (opening c)) j) long in
-      ih c t ∙ ap (λ (b : Carried). kidsFrom b c end) (sym k ∙ ap (stepOf s (carry st slips rows)) ev)
-      ∙ ap (λ (j : ℕ). kidsFrom (stepOf s (carry st slips rows) (event (part c) (kind c) at (at + length (opening c)) n)) c j) there
+      let ev : event pt kd at start (end - start) ≡ event (part c) (kind c) at (at + length (opening c)) n = rw (pt-c, kd-c, long, here) in
+      ih c t ∙ ap (λ (b : Carried). kidsFrom b c end) (sym k ∙ ap (stepOf s a) ev)
+      ∙ ap (λ (j : ℕ). kidsFrom (stepOf s a (event (part c) (kind c) at (at + length (opening c)) n)) c j) there
 
 -- ─── what a turn keeps ───
 
--- read from `from` on with the state st₀ and the tables slips₀ and rows₀, the loop is at the row k and the place `at`, with st, slips and rows
-pub record Kept (s : Bytes) (e from : ℕ) (slips₀ rows₀ : List ℕ) (st₀ : State) (slips rows : List ℕ) (k at far′ : ℕ) (st : State) : Type 0 where
+-- read from `from` on with the lent rows kept₀, slips₀ and rows₀, the loop is at the row k and the place `at`, with kept, slips and rows
+pub record Kept (s : Bytes) (e from : ℕ) (kept₀ slips₀ rows₀ kept slips rows : List ℕ) (k at far′ : ℕ) : Type 0 where
   pub behind : from ≤ at
   pub inside : at ≤ length s
   pub row : k ≤ table.rowsEnd
-  pub bounds : Within at st
+  pub bounds : Within at (stateOf kept)
+  pub kept-long : length kept ≡ length kept₀
   pub slips-long : length slips ≡ length slips₀
   pub rows-long : length rows ≡ length rows₀
-  pub going : (c : Elem) → T (holdsElem e c) → Going s (kidsFrom s (carry st₀ slips₀ rows₀) c from) c k at far′ (carry st slips rows)
+  pub going : (c : Elem) → T (holdsElem e c) → Going s (kidsFrom s (carried kept₀ slips₀ rows₀) c from) c k at far′ (carried kept slips rows)
 
 -- what is fine from a later place is fine from an earlier one
-pub fine-from : (s : Bytes) (p q : ℕ) → p ≤ q → (r : Reading) → Fine s q r → Fine s p r
-fine-from s p q h (Ended n st) w = (omega arith, w .1)
-fine-from s p q h (Stuck n) w = tt
+pub fine-from : (s : Bytes) (p q : ℕ) (st : State) → p ≤ q → (r : Reading) → Fine s q r st → Fine s p r st
+fine-from s p q st h (Ended n) w = (omega arith, w .1)
+fine-from s p q st h (Stuck n) w = tt
+
+-- what is fine of an answer that ended
+pub fine-ended : (s : Bytes) (at : ℕ) (x : Reading) (p : ℕ) (st : State) → x ≡ Ended p → Fine s at x st → (at < p) × ((p ≤ length s) × Within p st)
+fine-ended s at x p st e w = subst (λ (r : Reading). Fine s at r st) e w
 
 -- a closing tag that was read lies behind its place
-pub closed-fine : (s : Bytes) (e far′ at : ℕ) (st : State) → e < table.elementCount → at ≤ length s → Within at st → Fine s at (closed s e far′ at st)
+pub closed-fine : (s : Bytes) (e far′ at : ℕ) (st : State) → e < table.elementCount → at ≤ length s → Within at st → Fine s at (closed s e far′ at) st
 unfolding closed
 closed-fine s e far′ at st h l w =
     let t : Bytes = table.closeTag (table.elementAt e) in
@@ -338,10 +331,10 @@ closed-fine s e far′ at st h l w =
     let p = placed e (table.elementAt e) h refl in
     go n (ltb n (length t)) (common-in s t at n l refl .0) (λ f. omega (arith, close-length (table.elementAt e) p, ltb-false n (length t) f))
   where
-    go : (n : ℕ) (z : Bool) → at + n ≤ length s → (z ≡ false → 1 ≤ n) → Fine s at (pick z (Stuck (max far′ (at + n))) (Ended (at + n) st))
+    go : (n : ℕ) (z : Bool) → at + n ≤ length s → (z ≡ false → 1 ≤ n) → Fine s at (pick z (Stuck (max far′ (at + n))) (Ended (at + n))) st
     go n true a b = tt
     go n false a b = (omega (arith, b refl), (a, within-more w (omega arith)))
 
 -- the opening tag has room
-pub room-is : (s : Bytes) (e at : ℕ) (st : State) (x : Element) → Ready s e at st → x ≡ table.elementAt e → at + (x .close - x .«open») ≤ length s
-room-is s e at st x r q = subst (λ (y : Element). at + (y .close - y .«open») ≤ length s) (sym q) (r .room)
+pub room-is : (s : Bytes) (e at : ℕ) (kept : List ℕ) (l : ℕ) → Ready s e at kept → l ≡ table.elementAt e .close - table.elementAt e .«open» → at + l ≤ length s
+room-is s e at kept l r q = omega (arith, r .room)

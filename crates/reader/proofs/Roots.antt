@@ -28,14 +28,12 @@ use Rattle.reader.specs.declared.Outcome.the-variants.{TooLong, Stuck, R
 use Rattle.reader.specs.Walk.{At, ended, halts, fold, from, elementAt}
 use Rattle.reader.specs.Read.{ReadRight, Answers, Rooted}
 use Rattle.reader.proofs.Walks.{from-element}
-use Rattle.table.specs.declared.Element.{Element}
 use Rattle.table.specs.Table as table
 use Rattle.table.proofs.Held.{document-held, held, placed, open-length}
 use Rattle.reader.specs.declared.walk.Reading.{Reading}
 use Rattle.reader.specs.declared.walk.Reading.the-variants.{Ended, Stuck as Halted}
 use Rattle.reader.specs.Told.{told}
-use Rattle.state.specs.declared.State.{State}
-use Rattle.reader.proofs.Going.{eat-part, eat-whole, carry}
+use Rattle.reader.proofs.Going.{eat-part, eat-whole}
 
 -- ─── positions ───
 
@@ -101,7 +99,7 @@ module _ (s : Bytes) (far p q n : ℕ) (e : q ≡ p + span (inRun Holds) (drop p
       ap (farther far) (lead-at s Document p q e ∙ start-missed s Document q n (eat-part (opening Document) (drop q s) (omega arith) ∙ ap miss (sym c))) ∙ ap stuck (sym k)
 
   -- all of it does, and the reading of the root came to x
-  module _ (l : length (opening Document) ≤ n) (a : Carried) (x : Reading) (slips rows : List ℕ) (h : told s x slips rows ≡ elementAt Carried (stepOf s) s a Document q) where
+  module _ (l : length (opening Document) ≤ n) (a : Carried) (x : Reading) (b : Carried) (h : told s x b ≡ elementAt Carried (stepOf s) s a Document q) where
     found : (r : Bytes) × (eat (opening Document) (drop q s) ≡ ate r)
     found = eat-whole (opening Document) (drop q s) (omega arith)
 
@@ -112,21 +110,21 @@ module _ (s : Bytes) (far p q n : ℕ) (e : q ≡ p + span (inRun Holds) (drop p
     unfolding reads
     whole-is = lead-at s Document p q e ∙ ap (shift q) (start-found s Document q (found .0) (found .1))
 
-    reads-is : (y : Reading) → x ≡ y → from Carried (stepOf s) s q a reads ≡ told s y slips rows
+    reads-is : (y : Reading) → x ≡ y → from Carried (stepOf s) s q a reads ≡ told s y b
     unfolding reads
-    reads-is y u = from-element Carried (stepOf s) s a Document q (found .0) (behind s Document q (found .0) (found .1)) ∙ sym h ∙ ap (λ (z : Reading). told s z slips rows) u
+    reads-is y u = from-element Carried (stepOf s) s a Document q (found .0) (behind s Document q (found .0) (found .1)) ∙ sym h ∙ ap (λ (z : Reading). told s z b) u
 
     pub root-lost : (k : ℕ) → x ≡ Halted k → (m : ℕ) → m ≡ max far k → rootFrom s far p ≡ stuck m
     root-lost k u m y = ap (farther far) (whole-is ∙ finish-lost s Document a q reads k (reads-is (Halted k) u)) ∙ ap stuck (sym y)
 
-    pub root-more : (k z : ℕ) (st : State) → x ≡ Ended k st → z ≡ k + span (inRun Holds) (drop k s) → z < length s → (m : ℕ) → m ≡ max far z → rootFrom s far p ≡ stuck m
-    root-more k z st u w g m y =
-        ap (farther far) (whole-is ∙ finish-more s Document a q reads k z (carry st slips rows) (reads-is (Ended k st) u) w g) ∙ ap stuck (sym y)
+    pub root-more : (k z : ℕ) → x ≡ Ended k → z ≡ k + span (inRun Holds) (drop k s) → z < length s → (m : ℕ) → m ≡ max far z → rootFrom s far p ≡ stuck m
+    root-more k z u w g m y =
+        ap (farther far) (whole-is ∙ finish-more s Document a q reads k z b (reads-is (Ended k) u) w g) ∙ ap stuck (sym y)
 
-    pub root-done : (k z : ℕ) (st : State) → x ≡ Ended k st → z ≡ k + span (inRun Holds) (drop k s) → length s ≤ z
-        → (es : List Event) × (rootFrom s far p ≡ done es) × (fold Carried (stepOf s) s a es ≡ carry st slips rows)
-    root-done k z st u w g =
-        let d = finish-done s Document a q reads k z (carry st slips rows) (reads-is (Ended k st) u) w g in (d .0, ap (farther far) (whole-is ∙ d .1), d .2)
+    pub root-done : (k z : ℕ) → x ≡ Ended k → z ≡ k + span (inRun Holds) (drop k s) → length s ≤ z
+        → (es : List Event) × (rootFrom s far p ≡ done es) × (fold Carried (stepOf s) s a es ≡ b)
+    root-done k z u w g =
+        let d = finish-done s Document a q reads k z b (reads-is (Ended k) u) w g in (d .0, ap (farther far) (whole-is ∙ d .1), d .2)
 
 -- ─── the declaration ───
 
@@ -157,19 +155,18 @@ without-declaration s n e l =
 
 -- ─── the promise ───
 
-pub read-is : (s : Bytes) (a : Carried) (x : Res) (r : Outcome) (slips rows : List ℕ) → length s ≤ mostBytes → x ≡ read declaration Document s → Answers s a x r slips rows → ReadRight s a r slips rows
+pub read-is : (s : Bytes) (a : Carried) (x : Res) (r : Outcome) (b : Carried) → length s ≤ mostBytes → x ≡ read declaration Document s → Answers s a x r b → ReadRight s a r b
 unfolding ReadRight Answers
-read-is s a x TooLong slips rows l e h = absurd h
-read-is s a x (Stuck n) slips rows l e h = (l, subst (Promise declaration Document s) (sym e ∙ h) (read-right s))
-read-is s a x (Read st) slips rows l e h =
+read-is s a x TooLong b l e h = absurd h
+read-is s a x (Stuck n) b l e h = (l, subst (Promise declaration Document s) (sym e ∙ h) (read-right s))
+read-is s a x Read b l e h =
     let p : Promise declaration Document s (done (h .0)) = subst (Promise declaration Document s) (sym e ∙ h .1) (read-right s) in
     (l, (p .0, p .1, ap (fold Carried (stepOf s) s a) (p .2) ∙ h .2))
 
 -- ─── the root's tag in the tables ───
 
-module _ (x : Element) (q : x ≡ table.elementAt 0) where
-  pub root-agrees : (s : Bytes) (at n : ℕ) → n ≡ common (drop at s) (table.openTag x) → n ≡ common (drop at s) (opening Document)
-  root-agrees s at n e = e ∙ ap (common (drop at s)) (ap table.openTag q ∙ held 0 Document document-held .open-tag)
+pub root-agrees : (s : Bytes) (at n : ℕ) → n ≡ common (drop at s) (table.openTag (table.elementAt 0)) → n ≡ common (drop at s) (opening Document)
+root-agrees s at n e = e ∙ ap (common (drop at s)) (held 0 Document document-held .open-tag)
 
-  pub root-length : length (opening Document) ≡ x .close - x .«open»
-  root-length = ap length (sym (ap table.openTag q ∙ held 0 Document document-held .open-tag)) ∙ open-length x (placed 0 x (held 0 Document document-held .small) q)
+pub root-length : (l : ℕ) → l ≡ table.elementAt 0 .close - table.elementAt 0 .«open» → length (opening Document) ≡ l
+root-length l e = ap length (sym (held 0 Document document-held .open-tag)) ∙ open-length (table.elementAt 0) (placed 0 (table.elementAt 0) (held 0 Document document-held .small) refl) ∙ sym e

@@ -8,29 +8,29 @@ ghost use Rattle.state.specs.Fill.{Carried, stepOf};
 ghost use Rattle.table.specs.Table.{elementCount};
 ghost use Rattle.table.specs.Held.{holdsElem};
 ghost use Rattle.reader.specs.Walk.{childrenAt, elementAt};
+ghost use Rattle.kept.specs.Kept.{stateOf};
+ghost use Rattle.reader.specs.Read.{carried};
 ghost use Rattle.reader.specs.Told.{told, closed, Ready, ReadyKids, Fine};
-use state::State;
 use tree::Event;
 
 // What reading comes to.
 pub enum Reading {
-    // It was read up to this place, with this state.
-    Ended(usize, State),
+    // It was read up to this place.
+    Ended(usize),
     // Nothing of the form goes on past this place.
     Stuck(usize),
 }
 
 // The closing tag of an element. `far` is how far another tag agreed that might have stood here.
-pub fn read_close(s: &[u8], e: usize, far: usize, at: usize, state: State) -> Reading
+pub fn read_close(s: &[u8], e: usize, far: usize, at: usize) -> Reading
     requires { ⌜ (e < elementCount) × (at ≤ length (now s)) ⌝ }
-    ensures { λ r. ⌜ r ≡ closed (now (s .entry)) e far at state ⌝ }
+    ensures { λ r. ⌜ r ≡ closed (now (s .entry)) e far at ⌝ }
 {
-    let x = table::element_at(e);
-    let n = table::closes(s, at, x);
-    if n < x.end - x.close {
+    let n = table::closes(s, at, e);
+    if n < table::close_length(e) {
         return Reading::Stuck(scan::later(far, at + n));
     }
-    Reading::Ended(at + n, state)
+    Reading::Ended(at + n)
 }
 
 // The element `e`, whose opening tag stands at `at`.
@@ -38,19 +38,18 @@ pub fn read_element(
     s: &[u8],
     e: usize,
     at: usize,
-    state: State,
+    kept: &mut [u64],
     slips: &mut [u64],
     rows: &mut [u64],
 ) -> Reading
-    requires { ⌜ Ready (now s) e at state ⌝ }
-    ensures within { λ r. ⌜ Fine (now (s .entry)) at r ⌝ }
-    ensures exact { λ r. ⌜ ((c : Elem) → T (holdsElem e c) → told (now (s .entry)) r (now (slips .exit)) (now (rows .exit))
-        ≡ elementAt Carried (stepOf (now (s .entry))) (now (s .entry)) (record { state = state; slips = now (slips .entry); rows = now (rows .entry) }) c at) ⌝ }
+    requires { ⌜ Ready (now s) e at (now kept) ⌝ }
+    ensures within { λ r. ⌜ Fine (now (s .entry)) at r (stateOf (now (kept .exit))) ⌝ }
+    ensures exact { λ r. ⌜ ((c : Elem) → T (holdsElem e c) → told (now (s .entry)) r (carried (now (kept .exit)) (now (slips .exit)) (now (rows .exit)))
+        ≡ elementAt Carried (stepOf (now (s .entry))) (now (s .entry)) (carried (now (kept .entry)) (now (slips .entry)) (now (rows .entry))) c at) ⌝ }
 {
-    let x = table::element_at(e);
-    let part = x.part;
-    let kind = x.kind;
-    let start = at + (x.close - x.open);
+    let part = table::part_of(e);
+    let kind = table::kind_at(e);
+    let start = at + table::open_length(e);
     let end = scan::run_end(s, start, kind);
     let event = Event {
         part,
@@ -59,8 +58,8 @@ pub fn read_element(
         start,
         length: end - start,
     };
-    let next = fill::on_event(state, s, slips, rows, event);
-    read_children(s, e, end, next, slips, rows)
+    fill::on_event(kept, s, slips, rows, event);
+    read_children(s, e, end, kept, slips, rows)
 }
 
 // The children of `e`, from the place on where the first of them or the closing tag is due.
@@ -68,44 +67,40 @@ pub fn read_children(
     s: &[u8],
     e: usize,
     from: usize,
-    state: State,
+    kept: &mut [u64],
     slips: &mut [u64],
     rows: &mut [u64],
 ) -> Reading
-    requires { ⌜ ReadyKids (now s) e from state ⌝ }
-    ensures within { λ r. ⌜ Fine (now (s .entry)) from r ⌝ }
-    ensures exact { λ r. ⌜ ((c : Elem) → T (holdsElem e c) → told (now (s .entry)) r (now (slips .exit)) (now (rows .exit))
-        ≡ childrenAt Carried (stepOf (now (s .entry))) (now (s .entry)) (record { state = state; slips = now (slips .entry); rows = now (rows .entry) }) (items c) c from) ⌝ }
+    requires { ⌜ ReadyKids (now s) e from (now kept) ⌝ }
+    ensures within { λ r. ⌜ Fine (now (s .entry)) from r (stateOf (now (kept .exit))) ⌝ }
+    ensures exact { λ r. ⌜ ((c : Elem) → T (holdsElem e c) → told (now (s .entry)) r (carried (now (kept .exit)) (now (slips .exit)) (now (rows .exit)))
+        ≡ childrenAt Carried (stepOf (now (s .entry))) (now (s .entry)) (carried (now (kept .entry)) (now (slips .entry)) (now (rows .entry))) (items c) c from) ⌝ }
 {
-    let x = table::element_at(e);
-    let mut k = x.first;
+    let mut k = table::first_of(e);
     let mut at = from;
     let mut far = from;
-    let mut st = state;
     while k < table::END {
         let row = table::row_at(k);
         let child = row.element;
-        let y = table::element_at(child);
-        let n = table::opens(s, at, y);
-        if n < y.close - y.open {
+        let n = table::opens(s, at, child);
+        if n < table::open_length(child) {
             far = scan::later(far, at + n);
             if row.other <= k {
                 return Reading::Stuck(far);
             }
             k = row.other;
         } else {
-            match read_element(s, child, at, st, slips, rows) {
+            match read_element(s, child, at, kept, slips, rows) {
                 Reading::Stuck(p) => {
                     return Reading::Stuck(p);
                 }
-                Reading::Ended(p, next) => {
+                Reading::Ended(p) => {
                     at = scan::white_end(s, p);
                     far = at;
-                    st = next;
                     k = row.next;
                 }
             }
         }
     }
-    read_close(s, e, far, at, st)
+    read_close(s, e, far, at)
 }

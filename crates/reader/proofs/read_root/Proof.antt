@@ -1,16 +1,12 @@
 -- `reader::read_root` meets its contract, way by way: the laws of Roots.
-use Rattle.reader.specs.Read.{Answers}
-use Prim.Native.Nat.{_+_, _-_, _≤_}
 use native.Mathlib.Omega.{arith}
-use mathlib.Core.Path.{subst}
-use lib.ListN.{length}
 use Rattle.tree.specs.Form.{white}
 use Rattle.tree.specs.Pain008.{Document}
 use Rattle.state.proofs.Bounds.{within-more}
-use Rattle.table.specs.declared.Element.{Element}
-use Rattle.reader.specs.Told.{Fine}
+use Rattle.reader.specs.Read.{Answers}
 use Rattle.scan.proofs.Scans.{common-in, run-in}
-use Rattle.table.proofs.Held.{placed, document-held}
+use Rattle.table.proofs.Held.{document-held}
+use Rattle.reader.proofs.Going.{fine-ended}
 use Rattle.reader.proofs.Roots.{root-missed, root-lost, root-more, root-done, root-agrees, root-length}
 use borrow.Author.Needs.{needs}
 use Rattle.reader.proofs.read_root.Statement.{statement}
@@ -19,21 +15,14 @@ use Rattle.reader.proofs.read_root.Tie as tie
 white-end-requires : tie.Need-white-end-requires
 white-end-requires c κs = search needs
 
-element-at-requires : tie.Need-element-at-requires
-element-at-requires c κs = search needs
-
 opens-requires : tie.Need-opens-requires
-opens-requires c κs =
-    let w = run-in white _ _ _ (c .before .before .before .before .before .pre .1 .0) (c .before .white-end .ensures) in
-    let p = placed 0 _ (omega arith) (c .element-at .ensures) in
-    (w .1, (omega arith, omega arith))
+opens-requires c κs = (run-in white _ _ _ (c .before .before .before .before .before .pre .1 .0) (c .white-end .ensures) .1, omega arith)
 
-sub-if1 : tie.Need-sub-if1
-sub-if1 c = let p = placed 0 _ (omega arith) (c .before .before .element-at .ensures) in omega arith
+open-length-requires : tie.Need-open-length-requires
+open-length-requires c κs = search needs
 
 add-later : tie.Need-add-later
-add-later c =
-    let w = run-in white _ _ _ (c .before .before .before .before .before .before .before .before .pre .1 .0) (c .before .before .before .before .white-end .ensures) in
+add-later c = let w = run-in white _ _ _ (c .before .before .before .before .before .before .before .before .pre .1 .0) (c .before .before .before .white-end .ensures) in
     omega (arith, common-in _ _ _ _ (w .1) (c .before .before .opens .ensures))
 
 later-requires : tie.Need-later-requires
@@ -41,22 +30,19 @@ later-requires c κs = search needs
 
 returns : tie.Need-returns
 unfolding Answers
-returns c = (
-  tt,
-  root-missed (c .before .before .before .before .before .before .before .before .before .args .s .now) _ _ _ _ (c .before .before .before .before .before .white-end .ensures) (root-agrees _ (c .before .before .before .before .element-at .ensures) (c .before .before .before .before .before .before .before .before .before .args .s .now) (c .before .before .before .before .before .white-end .result) _ (c .before .before .before .opens .ensures))
-      (omega (arith, root-length _ (c .before .before .before .before .element-at .ensures), c .before .if1 .taken)) _ (c .later .ensures),
-)
+returns c = let s = c .before .before .before .before .before .before .before .before .before .args .s .now in
+    (tt, root-missed s _ _ _ _ (c .before .before .before .before .white-end .ensures) (root-agrees s (c .before .before .before .before .white-end .result) _ (c .before .before .before .opens .ensures)) (omega (arith, root-length _ (c .before .before .open-length .ensures), c .before .if1 .taken)) _ (c .later .ensures))
 
 read-element-requires : tie.Need-read-element-requires
-read-element-requires c κs =
-    let w = run-in white _ _ _ (c .before .before .before .before .before .before .before .before .before .before .pre .1 .0) (c .before .before .before .before .before .before .white-end .ensures) in
-    let i = common-in _ _ _ _ (w .1) (c .before .before .before .before .opens .ensures) in
-    let l = c .before .before .if1 .left in
+read-element-requires c κs = let w = run-in white _ _ _ (c .before .before .before .before .before .before .before .before .before .before .before .pre .1 .0) (c .before .before .before .before .before .before .white-end .ensures) in
+    let i = common-in _ _ _ _ (w .1) (c .before .before .before .before .before .opens .ensures) in
+    let l = c .before .before .before .if1 .left in
     record {
-      short = c .before .before .before .before .before .before .before .before .before .before .pre .0;
+      short = c .before .before .before .before .before .before .before .before .before .before .before .pre .0;
       known = omega arith;
-      room = subst (λ (x : Element). c .before .before .before .before .before .before .white-end .result + (x .close - x .«open») ≤ length (c .before .before .before .before .before .before .before .before .before .before .args .s .now)) (c .before .before .before .before .before .element-at .ensures) (omega arith);
-      bounds = within-more (c .before .before .before .before .before .before .before .before .before .before .pre .1 .1) (omega arith);
+      room = omega (arith, c .before .before .before .before .open-length .ensures);
+      long = c .before .before .before .before .before .before .before .before .before .before .before .pre .1 .1 .0;
+      bounds = within-more (c .before .before .before .before .before .before .before .before .before .before .before .pre .1 .1 .1) (omega arith);
     }
 
 enum-known-p : tie.Need-enum-known-p
@@ -69,8 +55,7 @@ enum-known-p-2 : tie.Need-enum-known-p-2
 enum-known-p-2 c = search needs
 
 white-end-requires-2 : tie.Need-white-end-requires-2
-white-end-requires-2 c κs =
-    subst (Fine (c .before .before .before .before .before .before .before .before .before .before .before .before .before .before .before .before .before .before .args .s .now) (c .before .before .before .before .before .before .before .before .before .before .before .before .before .before .white-end .result)) (c .before .p2 .given .1) (c .before .before .before .before .before .before .before .read-element .ensures .0) .1 .0
+white-end-requires-2 c κs = fine-ended (c .before .before .before .before .before .before .before .before .before .before .before .before .before .before .before .before .before .before .before .before .before .args .s .now) (c .before .before .before .before .before .before .before .before .before .before .before .before .before .before .before .before .white-end .result) _ _ _ (c .before .p2 .given .1) (c .before .before .before .before .before .before .before .before .before .read-element .ensures .0) .1 .0
 
 later-requires-3 : tie.Need-later-requires-3
 later-requires-3 c κs = search needs
@@ -81,29 +66,16 @@ same-length c = search needs
 same-length-2 : tie.Need-same-length-2
 same-length-2 c = search needs
 
-returns-2 : tie.Need-returns-2
-unfolding Answers
-returns-2 c = (
-  tt,
-  root-more (c .before .before .before .before .before .before .before .before .before .before .before .before .before .before .before .before .before .before .before .before .before .args .s .now) _ _ _ _ (c .before .before .before .before .before .before .before .before .before .before .before .before .before .before .before .before .before .white-end .ensures) (root-agrees _ (c .before .before .before .before .before .before .before .before .before .before .before .before .before .before .before .before .element-at .ensures) (c .before .before .before .before .before .before .before .before .before .before .before .before .before .before .before .before .before .before .before .before .before .args .s .now) (c .before .before .before .before .before .before .before .before .before .before .before .before .before .before .before .before .before .white-end .result) _ (c .before .before .before .before .before .before .before .before .before .before .before .before .before .before .before .opens .ensures))
-      (omega (arith, root-length _ (c .before .before .before .before .before .before .before .before .before .before .before .before .before .before .before .before .element-at .ensures), c .before .before .before .before .before .before .before .before .before .before .before .before .before .if1 .left)) _ _ _ _ (c .before .before .before .before .before .before .before .before .before .before .read-element .ensures .1 Document document-held) _ _ _ (c .before .before .before .before .p2 .given .1)
-      (c .before .before .white-end2 .ensures) (c .before .if2 .taken) _ (c .later3 .ensures),
-)
-
 same-length-3 : tie.Need-same-length-3
 same-length-3 c = search needs
 
+returns-2 : tie.Need-returns-2
+unfolding Answers
+returns-2 c = let s = c .before .before .before .before .before .before .before .before .before .before .before .before .before .before .before .before .before .before .before .before .before .before .before .before .args .s .now in
+    (tt, root-more s _ _ _ _ (c .before .before .before .before .before .before .before .before .before .before .before .before .before .before .before .before .before .before .before .white-end .ensures) (root-agrees s (c .before .before .before .before .before .before .before .before .before .before .before .before .before .before .before .before .before .before .before .white-end .result) _ (c .before .before .before .before .before .before .before .before .before .before .before .before .before .before .before .before .before .before .opens .ensures)) (omega (arith, root-length _ (c .before .before .before .before .before .before .before .before .before .before .before .before .before .before .before .before .before .open-length .ensures), c .before .before .before .before .before .before .before .before .before .before .before .before .before .before .before .before .if1 .left)) _ _ _ (c .before .before .before .before .before .before .before .before .before .before .before .before .read-element .ensures .1 Document document-held) _ _ (c .before .before .before .before .p2 .given .1) (c .before .before .white-end2 .ensures) (c .before .if2 .taken) _ (c .later3 .ensures))
+
 same-length-4 : tie.Need-same-length-4
 same-length-4 c = search needs
-
-returns-3 : tie.Need-returns-3
-unfolding Answers
-returns-3 c = (
-  tt,
-  root-lost (c .before .before .before .before .before .before .before .before .before .before .before .before .before .before .before .before .before .before .before .args .s .now) _ _ _ _ (c .before .before .before .before .before .before .before .before .before .before .before .before .before .before .before .white-end .ensures) (root-agrees _ (c .before .before .before .before .before .before .before .before .before .before .before .before .before .before .element-at .ensures) (c .before .before .before .before .before .before .before .before .before .before .before .before .before .before .before .before .before .before .before .args .s .now) (c .before .before .before .before .before .before .before .before .before .before .before .before .before .before .before .white-end .result) _ (c .before .before .before .before .before .before .before .before .before .before .before .before .before .opens .ensures))
-      (omega (arith, root-length _ (c .before .before .before .before .before .before .before .before .before .before .before .before .before .before .element-at .ensures), c .before .before .before .before .before .before .before .before .before .before .before .if1 .left)) _ _ _ _ (c .before .before .before .before .before .before .before .before .read-element .ensures .1 Document document-held) _ (c .before .before .p .given .1)
-      _ (c .later2 .ensures),
-)
 
 same-length-5 : tie.Need-same-length-5
 same-length-5 c = search needs
@@ -111,24 +83,33 @@ same-length-5 c = search needs
 same-length-6 : tie.Need-same-length-6
 same-length-6 c = search needs
 
+returns-3 : tie.Need-returns-3
+unfolding Answers
+returns-3 c = let s = c .before .before .before .before .before .before .before .before .before .before .before .before .before .before .before .before .before .before .before .before .before .before .args .s .now in
+    (tt, root-lost s _ _ _ _ (c .before .before .before .before .before .before .before .before .before .before .before .before .before .before .before .before .before .white-end .ensures) (root-agrees s (c .before .before .before .before .before .before .before .before .before .before .before .before .before .before .before .before .before .white-end .result) _ (c .before .before .before .before .before .before .before .before .before .before .before .before .before .before .before .before .opens .ensures)) (omega (arith, root-length _ (c .before .before .before .before .before .before .before .before .before .before .before .before .before .before .before .open-length .ensures), c .before .before .before .before .before .before .before .before .before .before .before .before .before .before .if1 .left)) _ _ _ (c .before .before .before .before .before .before .before .before .before .before .read-element .ensures .1 Document document-held) _ (c .before .before .p .given .1) _ (c .later2 .ensures))
+
+same-length-7 : tie.Need-same-length-7
+same-length-7 c = search needs
+
+same-length-8 : tie.Need-same-length-8
+same-length-8 c = search needs
+
+same-length-9 : tie.Need-same-length-9
+same-length-9 c = search needs
+
 returns-4 : tie.Need-returns-4
 unfolding Answers
-returns-4 c =
-    let f = subst (Fine (c .before .before .before .before .before .before .before .before .before .before .before .before .before .before .before .before .before .before .before .before .args .s .now) (c .before .before .before .before .before .before .before .before .before .before .before .before .before .before .before .before .white-end .result)) (c .before .before .before .p2 .given .1) (c .before .before .before .before .before .before .before .before .before .read-element .ensures .0) in (
-      within-more (f .1 .1) (f .1 .0),
-      root-done (c .before .before .before .before .before .before .before .before .before .before .before .before .before .before .before .before .before .before .before .before .args .s .now) _ _ _ _ (c .before .before .before .before .before .before .before .before .before .before .before .before .before .before .before .before .white-end .ensures) (root-agrees _ (c .before .before .before .before .before .before .before .before .before .before .before .before .before .before .before .element-at .ensures) (c .before .before .before .before .before .before .before .before .before .before .before .before .before .before .before .before .before .before .before .before .args .s .now) (c .before .before .before .before .before .before .before .before .before .before .before .before .before .before .before .before .white-end .result) _ (c .before .before .before .before .before .before .before .before .before .before .before .before .before .before .opens .ensures))
-          (omega (arith, root-length _ (c .before .before .before .before .before .before .before .before .before .before .before .before .before .before .before .element-at .ensures), c .before .before .before .before .before .before .before .before .before .before .before .before .if1 .left)) _ _ _ _ (c .before .before .before .before .before .before .before .before .before .read-element .ensures .1 Document document-held) _ _ _ (c .before .before .before .p2 .given .1)
-          (c .before .white-end2 .ensures) (c .if2 .left),
-    )
+returns-4 c = let s = c .before .before .before .before .before .before .before .before .before .before .before .before .before .before .before .before .before .before .before .before .before .before .before .args .s .now in
+    let f = fine-ended s (c .before .before .before .before .before .before .before .before .before .before .before .before .before .before .before .before .before .before .white-end .result) _ _ _ (c .before .before .before .p2 .given .1) (c .before .before .before .before .before .before .before .before .before .before .before .read-element .ensures .0) in
+    (within-more (f .1 .1) (f .1 .0), root-done s _ _ _ _ (c .before .before .before .before .before .before .before .before .before .before .before .before .before .before .before .before .before .before .white-end .ensures) (root-agrees s (c .before .before .before .before .before .before .before .before .before .before .before .before .before .before .before .before .before .before .white-end .result) _ (c .before .before .before .before .before .before .before .before .before .before .before .before .before .before .before .before .before .opens .ensures)) (omega (arith, root-length _ (c .before .before .before .before .before .before .before .before .before .before .before .before .before .before .before .before .open-length .ensures), c .before .before .before .before .before .before .before .before .before .before .before .before .before .before .before .if1 .left)) _ _ _ (c .before .before .before .before .before .before .before .before .before .before .before .read-element .ensures .1 Document document-held) _ _ (c .before .before .before .p2 .given .1) (c .before .white-end2 .ensures) (c .if2 .left))
 
 pub read-root-spec : {M : Type 1} → statement M
 read-root-spec =
     tie.close
     (tie.spec
     white-end-requires
-    element-at-requires
     opens-requires
-    sub-if1
+    open-length-requires
     add-later
     later-requires
     returns
@@ -140,10 +121,13 @@ read-root-spec =
     later-requires-3
     same-length
     same-length-2
-    returns-2
     same-length-3
+    returns-2
     same-length-4
-    returns-3
     same-length-5
     same-length-6
+    returns-3
+    same-length-7
+    same-length-8
+    same-length-9
     returns-4)

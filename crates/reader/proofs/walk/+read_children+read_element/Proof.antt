@@ -1,21 +1,21 @@
 -- `read_children` and `read_element`, which call each other, meet their contracts. The loop over children keeps `Kept`: what was to be read from the first place on
 -- is what is to be read from here on. What falls is the number of bytes left; in the loop that, and then the number of rows left.
 use borrow.Author.Needs.{needs}
-use Prim.Native.Nat.{ℕ, _+_, _-_, _*_, _≤_, _<_}
+use Prim.Native.Nat.{ℕ, _+_, _-_, _*_, _<_}
 use native.Mathlib.Omega.{arith}
 use mathlib.Core.Path.{refl, ap, sym, subst, _∙_}
 use lib.ListN.{length}
 use Rattle.tree.specs.Form.{white}
 use Rattle.state.proofs.Bounds.{within-more}
-use Rattle.reader.specs.declared.walk.Reading.the-variants.{Ended}
+use Rattle.kept.specs.Kept.{stateOf}
 use Rattle.reader.specs.declared.walk.Reading.{Reading}
-use Rattle.table.specs.declared.Element.{Element}
+use Rattle.reader.specs.Read.{carried}
 use Rattle.reader.specs.Told.{told, Fine, closed}
 use Rattle.scan.proofs.Scans.{common-in, run-in}
 use Rattle.table.specs.Table.{rowsEnd}
 use Rattle.table.proofs.Fits.{fits}
 use Rattle.table.proofs.Held.{placed, led}
-use Rattle.reader.proofs.Going.{Kept, room-is, going-start, going-skip, going-stuck, going-child, going-lost, going-close, element-read, fine-from, closed-fine}
+use Rattle.reader.proofs.Going.{Kept, room-is, going-start, going-skip, going-stuck, going-child, going-lost, going-close, element-read, fine-from, fine-ended, closed-fine}
 use borrow.Fn.Kinds.{In}
 use borrow.Fn.PlainCycle.{Measures, is, falls, and}
 use Rattle.reader.proofs.walk.read_children.Reads as read-children
@@ -24,56 +24,61 @@ use Rattle.reader.proofs.walk.+read_children+read_element.Lts-read_chil
 use Rattle.reader.proofs.walk.read_element.Reads as read-element
 use Rattle.reader.proofs.walk.read_element.Kinds as read-element-kinds
 use Rattle.reader.proofs.walk.+read_children+read_element.Lts-read_element as read-element-lts
+use Rattle.fill.proofs.on_event.Reads as on-event-reads
+use Rattle.reader.proofs.walk.read_close.Reads as read-close-reads
 use Rattle.scan.proofs.later.Reads as later-reads
 use Rattle.scan.proofs.run_end.Reads as run-end-reads
 use Rattle.scan.proofs.white_end.Reads as white-end-reads
-use Rattle.table.proofs.element_at.Reads as element-at-reads
+use Rattle.table.proofs.first_of.Reads as first-of-reads
+use Rattle.table.proofs.kind_at.Reads as kind-at-reads
+use Rattle.table.proofs.open_length.Reads as open-length-reads
 use Rattle.table.proofs.opens.Reads as opens-reads
+use Rattle.table.proofs.part_of.Reads as part-of-reads
 use Rattle.table.proofs.row_at.Reads as row-at-reads
-use Rattle.reader.proofs.walk.read_close.Reads as read-close-reads
-use Rattle.fill.proofs.on_event.Reads as on-event-reads
 use Rattle.reader.proofs.walk.+read_children+read_element.{statement}
 use Rattle.reader.proofs.walk.+read_children+read_element.Tie.{close}
 
-abbrev μ-read-children : Measures 3 read-children-kinds.ps ℕ
+abbrev μ-read-children : Measures 4 read-children-kinds.ps ℕ
 μ-read-children κs a = (length (a .0 .now) - a .1 .1 .0) * 2 + 1
 
-abbrev μ-read-element : Measures 3 read-element-kinds.ps ℕ
+abbrev μ-read-element : Measures 4 read-element-kinds.ps ℕ
 μ-read-element κs a = (length (a .0 .now) - a .1 .1 .0) * 2
 
-abbrev read-children-at : ℕ → In 3 read-children-kinds.ps
+abbrev read-children-at : ℕ → In 4 read-children-kinds.ps
 read-children-at t =
-    and 3 read-children-kinds.ps (is 3 read-children-kinds.ps μ-read-children t) read-children.Pre
+    and 4 read-children-kinds.ps (is 4 read-children-kinds.ps μ-read-children t) read-children.Pre
 
-abbrev read-children-below : ℕ → In 3 read-children-kinds.ps
+abbrev read-children-below : ℕ → In 4 read-children-kinds.ps
 read-children-below t =
     and
-    3
+    4
     read-children-kinds.ps
-    (falls 3 read-children-kinds.ps _<_ μ-read-children t)
+    (falls 4 read-children-kinds.ps _<_ μ-read-children t)
     read-children.Pre
 
-abbrev read-element-at : ℕ → In 3 read-element-kinds.ps
+abbrev read-element-at : ℕ → In 4 read-element-kinds.ps
 read-element-at t =
-    and 3 read-element-kinds.ps (is 3 read-element-kinds.ps μ-read-element t) read-element.Pre
+    and 4 read-element-kinds.ps (is 4 read-element-kinds.ps μ-read-element t) read-element.Pre
 
-abbrev read-element-below : ℕ → In 3 read-element-kinds.ps
+abbrev read-element-below : ℕ → In 4 read-element-kinds.ps
 read-element-below t =
     and
-    3
+    4
     read-element-kinds.ps
-    (falls 3 read-element-kinds.ps _<_ μ-read-element t)
+    (falls 4 read-element-kinds.ps _<_ μ-read-element t)
     read-element.Pre
 
 -- what each may ask and learn of what it calls
 abbrev read-children-calls : ℕ → read-children-lts.Claims
 read-children-calls t = (
-  element-at-reads.Asked,
-  element-at-reads.Learnt,
+  first-of-reads.Asked,
+  first-of-reads.Learnt,
   row-at-reads.Asked,
   row-at-reads.Learnt,
   opens-reads.Asked,
   opens-reads.Learnt,
+  open-length-reads.Asked,
+  open-length-reads.Learnt,
   later-reads.Asked,
   later-reads.Learnt,
   read-element-below t,
@@ -86,8 +91,12 @@ read-children-calls t = (
 
 abbrev read-element-calls : ℕ → read-element-lts.Claims
 read-element-calls t = (
-  element-at-reads.Asked,
-  element-at-reads.Learnt,
+  part-of-reads.Asked,
+  part-of-reads.Learnt,
+  kind-at-reads.Asked,
+  kind-at-reads.Learnt,
+  open-length-reads.Asked,
+  open-length-reads.Learnt,
   run-end-reads.Asked,
   run-end-reads.Learnt,
   on-event-reads.Asked,
@@ -97,98 +106,86 @@ read-element-calls t = (
 )
 
 abbrev read-children-Inv-loop : read-children-lts.InvT-loop
-read-children-Inv-loop s e from slips₀ rows₀ k₀ at₀ far₀ st₀ slips rows k at far st = Kept s e from slips₀ rows₀ st₀ slips rows k at far st
+read-children-Inv-loop s e from kept₀ slips₀ rows₀ k₀ at₀ far₀ kept slips rows k at far = Kept s e from kept₀ slips₀ rows₀ kept slips rows k at far
 
 abbrev read-children-μ-loop : read-children-lts.MeasureT-loop
-read-children-μ-loop s e from slips₀ rows₀ k₀ at₀ far₀ st₀ slips rows k at far st = (length s - at) * (rowsEnd + 2) + (rowsEnd - k)
+read-children-μ-loop s e from kept₀ slips₀ rows₀ k₀ at₀ far₀ kept slips rows k at far = (length s - at) * (rowsEnd + 2) + (rowsEnd - k)
 
--- a child was read: it ends behind its place and within the message
-child-read : (t : ℕ) (c : read-children-lts.After-p2 (read-children-calls t) (read-children-at t) read-children.Post read-children-Inv-loop read-children-μ-loop)
-    → Fine (c .before .before .before .before .before .before .before .before .before .before .before .before .before .before .before .before .before .before .before .before .args .s .now) (c .before .before .before .before .before .before .before .before .before .before .before .before .before .before .before .loop .at) (Ended (c .p2 .given .0 .0) (c .p2 .given .0 .1 .0))
-child-read t c = subst (Fine (c .before .before .before .before .before .before .before .before .before .before .before .before .before .before .before .before .before .before .before .before .args .s .now) (c .before .before .before .before .before .before .before .before .before .before .before .before .before .before .before .loop .at)) (c .p2 .given .1) (c .before .before .before .before .before .before .read-element .ensures .0)
-
-read-children-element-at-requires : (t : ℕ) → read-children-lts.Need-element-at-requires (read-children-calls t) (read-children-at t) read-children.Post read-children-Inv-loop read-children-μ-loop
-read-children-element-at-requires t c κs = c .before .before .before .pre .1 .known
+read-children-first-of-requires : (t : ℕ) → read-children-lts.Need-first-of-requires (read-children-calls t) (read-children-at t) read-children.Post read-children-Inv-loop read-children-μ-loop
+read-children-first-of-requires t c κs = c .before .before .before .before .pre .1 .known
 
 read-children-loop-holds : (t : ℕ) → read-children-lts.Need-loop-holds (read-children-calls t) (read-children-at t) read-children.Post read-children-Inv-loop read-children-μ-loop
-read-children-loop-holds t c =
-    let p = placed _ _ (c .before .before .before .before .pre .1 .known) (c .element-at .ensures) in
+read-children-loop-holds t c = let p = placed _ _ (c .before .before .before .before .before .pre .1 .known) refl in
     record {
       behind = omega arith;
-      inside = c .before .before .before .before .pre .1 .room;
-      row = p .starts;
-      bounds = c .before .before .before .before .pre .1 .bounds;
+      inside = c .before .before .before .before .before .pre .1 .room;
+      row = omega (arith, c .first-of .ensures);
+      bounds = c .before .before .before .before .before .pre .1 .bounds;
+      kept-long = refl;
       slips-long = refl;
       rows-long = refl;
-      going = λ d h. going-start (c .before .before .before .before .args .s .now) (c .before .before .before .before .args .e) d _ (c .before .before .before .before .args .from) _ h (ap (λ x. x .first) (c .element-at .ensures));
+      going = λ d h. going-start (c .before .before .before .before .before .args .s .now) (c .before .before .before .before .before .args .e) d _ (c .before .before .before .before .before .args .from) _ h (c .first-of .ensures);
     }
 
 read-children-row-at-requires : (t : ℕ) → read-children-lts.Need-row-at-requires (read-children-calls t) (read-children-at t) read-children.Post read-children-Inv-loop read-children-μ-loop
 read-children-row-at-requires t c κs = c .loop-test .taken
 
-read-children-element-at-requires-2 : (t : ℕ) → read-children-lts.Need-element-at-requires-2 (read-children-calls t) (read-children-at t) read-children.Post read-children-Inv-loop read-children-μ-loop
-read-children-element-at-requires-2 t c κs = led _ _ (c .before .loop-test .taken) (c .row-at .ensures) .child
-
 read-children-opens-requires : (t : ℕ) → read-children-lts.Need-opens-requires (read-children-calls t) (read-children-at t) read-children.Post read-children-Inv-loop read-children-μ-loop
-read-children-opens-requires t c κs =
-    let p = placed _ _ (led _ _ (c .before .before .loop-test .taken) (c .before .row-at .ensures) .child) (c .element-at2 .ensures) in
-    (c .before .before .before .loop .inv .inside, (omega arith, omega arith))
+read-children-opens-requires t c κs = (c .before .before .loop .inv .inside, led _ _ (c .before .loop-test .taken) (c .row-at .ensures) .child)
 
-read-children-sub-if1 : (t : ℕ) → read-children-lts.Need-sub-if1 (read-children-calls t) (read-children-at t) read-children.Post read-children-Inv-loop read-children-μ-loop
-read-children-sub-if1 t c =
-    let p = placed _ _ (led _ _ (c .before .before .before .before .loop-test .taken) (c .before .before .before .row-at .ensures) .child) (c .before .before .element-at2 .ensures) in
-    omega arith
+read-children-open-length-requires : (t : ℕ) → read-children-lts.Need-open-length-requires (read-children-calls t) (read-children-at t) read-children.Post read-children-Inv-loop read-children-μ-loop
+read-children-open-length-requires t c κs = led _ _ (c .before .before .loop-test .taken) (c .before .row-at .ensures) .child
 
 read-children-add-later : (t : ℕ) → read-children-lts.Need-add-later (read-children-calls t) (read-children-at t) read-children.Post read-children-Inv-loop read-children-μ-loop
-read-children-add-later t c = omega (arith, common-in _ _ _ _ (c .before .before .before .before .before .before .loop .inv .inside) (c .before .before .opens .ensures))
+read-children-add-later t c = omega (arith, common-in _ _ _ _ (c .before .before .before .before .before .loop .inv .inside) (c .before .before .opens .ensures))
 
 read-children-later-requires : (t : ℕ) → read-children-lts.Need-later-requires (read-children-calls t) (read-children-at t) read-children.Post read-children-Inv-loop read-children-μ-loop
 read-children-later-requires t c κs = search needs
 
 read-children-same-length : (t : ℕ) → read-children-lts.Need-same-length (read-children-calls t) (read-children-at t) read-children.Post read-children-Inv-loop read-children-μ-loop
-read-children-same-length t c = c .before .before .before .before .before .before .before .before .before .loop .inv .slips-long
+read-children-same-length t c = c .before .before .before .before .before .before .before .before .loop .inv .kept-long
 
 read-children-same-length-2 : (t : ℕ) → read-children-lts.Need-same-length-2 (read-children-calls t) (read-children-at t) read-children.Post read-children-Inv-loop read-children-μ-loop
-read-children-same-length-2 t c = c .before .before .before .before .before .before .before .before .before .loop .inv .rows-long
+read-children-same-length-2 t c = c .before .before .before .before .before .before .before .before .loop .inv .slips-long
+
+read-children-same-length-3 : (t : ℕ) → read-children-lts.Need-same-length-3 (read-children-calls t) (read-children-at t) read-children.Post read-children-Inv-loop read-children-μ-loop
+read-children-same-length-3 t c = c .before .before .before .before .before .before .before .before .loop .inv .rows-long
 
 read-children-returns : (t : ℕ) → read-children-lts.Need-returns (read-children-calls t) (read-children-at t) read-children.Post read-children-Inv-loop read-children-μ-loop
 read-children-returns t c = (
   tt,
-  λ d h. sym (going-stuck (c .before .before .before .before .before .before .before .before .before .before .before .before .before .before .args .s .now) _ d _ _ _ _ _ _ _ (c .before .before .before .before .before .before .before .before .loop-test .taken) (c .before .before .before .before .before .before .before .row-at .ensures) (c .before .before .before .before .before .before .element-at2 .ensures) (c .before .before .before .before .before .opens .ensures) (c .before .before .before .if1 .taken) (c .if2 .taken) _
-      (c .before .before .later .ensures) (c .before .before .before .before .before .before .before .before .before .loop .inv .going d h)),
+  λ d h. sym (going-stuck (c .before .before .before .before .before .before .before .before .before .before .before .before .before .before .args .s .now) _ d _ _ _ _ _ _ _ (c .before .before .before .before .before .before .before .loop-test .taken) (c .before .before .before .before .before .before .row-at .ensures) (c .before .before .before .before .before .opens .ensures) (c .before .before .before .before .open-length .ensures) (c .before .before .before .if1 .taken) (c .if2 .taken) _ (c .before .before .later .ensures) (c .before .before .before .before .before .before .before .before .loop .inv .going d h)),
 )
 
 read-children-loop-less : (t : ℕ) → read-children-lts.Need-loop-less (read-children-calls t) (read-children-at t) read-children.Post read-children-Inv-loop read-children-μ-loop
-read-children-loop-less t c = let r = led _ _ (c .before .before .before .before .before .before .before .before .loop-test .taken) (c .before .before .before .before .before .before .before .row-at .ensures) in omega arith
+read-children-loop-less t c = let r = led _ _ (c .before .before .before .before .before .before .before .loop-test .taken) (c .before .before .before .before .before .before .row-at .ensures) in omega arith
 
 read-children-loop-again : (t : ℕ) → read-children-lts.Need-loop-again (read-children-calls t) (read-children-at t) read-children.Post read-children-Inv-loop read-children-μ-loop
-read-children-loop-again t c =
-    let k = c .before .before .before .before .before .before .before .before .before .loop .inv in
-    let r = led _ _ (c .before .before .before .before .before .before .before .before .loop-test .taken) (c .before .before .before .before .before .before .before .row-at .ensures) in
+read-children-loop-again t c = let k = c .before .before .before .before .before .before .before .before .loop .inv in
+    let r = led _ _ (c .before .before .before .before .before .before .before .loop-test .taken) (c .before .before .before .before .before .before .row-at .ensures) in
     record {
       behind = k .behind;
       inside = k .inside;
       row = r .other;
       bounds = k .bounds;
+      kept-long = k .kept-long;
       slips-long = k .slips-long;
       rows-long = k .rows-long;
-      going = λ d h. going-skip (c .before .before .before .before .before .before .before .before .before .before .before .before .before .before .args .s .now) _ d _ _ _ _ _ _ _ (c .before .before .before .before .before .before .before .before .loop-test .taken) (c .before .before .before .before .before .before .before .row-at .ensures) (c .before .before .before .before .before .before .element-at2 .ensures) (c .before .before .before .before .before .opens .ensures) (c .before .before .before .if1 .taken) (c .if2 .left) _
-          (c .before .before .later .ensures) (k .going d h);
+      going = λ d h. going-skip (c .before .before .before .before .before .before .before .before .before .before .before .before .before .before .args .s .now) _ d _ _ _ _ _ _ _ (c .before .before .before .before .before .before .before .loop-test .taken) (c .before .before .before .before .before .before .row-at .ensures) (c .before .before .before .before .before .opens .ensures) (c .before .before .before .before .open-length .ensures) (c .before .before .before .if1 .taken) (c .if2 .left) _ (c .before .before .later .ensures) (k .going d h);
     }
 
 read-children-read-element-requires : (t : ℕ) → read-children-lts.Need-read-element-requires (read-children-calls t) (read-children-at t) read-children.Post read-children-Inv-loop read-children-μ-loop
-read-children-read-element-requires t c κs =
-    let k = c .before .before .before .before .before .before .before .before .loop .inv in
+read-children-read-element-requires t c κs = let k = c .before .before .before .before .before .before .before .before .loop .inv in
     let r = led _ _ (c .before .before .before .before .before .before .before .loop-test .taken) (c .before .before .before .before .before .before .row-at .ensures) in
-    let p = placed _ _ (r .child) (c .before .before .before .before .before .element-at2 .ensures) in
-    let i = common-in _ _ _ _ (k .inside) (c .before .before .before .before .opens .ensures) in
-    let l = c .before .before .if1 .left in
-    let m = c .before .before .before .before .before .before .before .before .before .before .before .before .before .pre .0 in (
+    let i = common-in _ _ _ _ (k .inside) (c .before .before .before .before .before .opens .ensures) in
+    let l = c .before .before .before .if1 .left in
+    let m = c .before .before .before .before .before .before .before .before .before .before .before .before .before .before .pre .0 in (
       omega arith,
       record {
-        short = c .before .before .before .before .before .before .before .before .before .before .before .before .before .pre .1 .short;
+        short = c .before .before .before .before .before .before .before .before .before .before .before .before .before .before .pre .1 .short;
         known = r .child;
-        room = subst (λ (x : Element). c .before .before .before .before .before .before .before .before .loop .at + (x .close - x .«open») ≤ length (c .before .before .before .before .before .before .before .before .before .before .before .before .before .args .s .now)) (c .before .before .before .before .before .element-at2 .ensures) (omega arith);
+        room = omega (arith, c .before .before .before .before .open-length .ensures);
+        long = k .kept-long ∙ c .before .before .before .before .before .before .before .before .before .before .before .before .before .before .pre .1 .long;
         bounds = k .bounds;
       },
     )
@@ -196,101 +193,119 @@ read-children-read-element-requires t c κs =
 read-children-enum-known-p : (t : ℕ) → read-children-lts.Need-enum-known-p (read-children-calls t) (read-children-at t) read-children.Post read-children-Inv-loop read-children-μ-loop
 read-children-enum-known-p t c = search needs
 
-read-children-same-length-3 : (t : ℕ) → read-children-lts.Need-same-length-3 (read-children-calls t) (read-children-at t) read-children.Post read-children-Inv-loop read-children-μ-loop
-read-children-same-length-3 t c = search needs
-
 read-children-same-length-4 : (t : ℕ) → read-children-lts.Need-same-length-4 (read-children-calls t) (read-children-at t) read-children.Post read-children-Inv-loop read-children-μ-loop
 read-children-same-length-4 t c = search needs
+
+read-children-same-length-5 : (t : ℕ) → read-children-lts.Need-same-length-5 (read-children-calls t) (read-children-at t) read-children.Post read-children-Inv-loop read-children-μ-loop
+read-children-same-length-5 t c = search needs
+
+read-children-same-length-6 : (t : ℕ) → read-children-lts.Need-same-length-6 (read-children-calls t) (read-children-at t) read-children.Post read-children-Inv-loop read-children-μ-loop
+read-children-same-length-6 t c = search needs
 
 read-children-returns-2 : (t : ℕ) → read-children-lts.Need-returns-2 (read-children-calls t) (read-children-at t) read-children.Post read-children-Inv-loop read-children-μ-loop
 read-children-returns-2 t c = (
   tt,
-  λ d h. sym (going-lost (c .before .before .before .before .before .before .before .before .before .before .before .before .before .before .before .before .before .before .before .before .before .args .s .now) _ d _ _ _ _ _ _ _ (c .before .before .before .before .before .before .before .before .before .before .before .before .before .before .before .loop-test .taken) (c .before .before .before .before .before .before .before .before .before .before .before .before .before .before .row-at .ensures) (c .before .before .before .before .before .before .before .before .before .before .before .before .before .element-at2 .ensures) (c .before .before .before .before .before .before .before .before .before .before .before .before .opens .ensures) (c .before .before .before .before .before .before .before .before .before .before .if1 .left) _ _ _
-      (c .before .before .before .before .before .before .before .read-element .ensures .1) _ (c .before .p .given .1) (c .before .before .before .before .before .before .before .before .before .before .before .before .before .before .before .before .loop .inv .going d h)),
+  λ d h. sym (going-lost (c .before .before .before .before .before .before .before .before .before .before .before .before .before .before .before .before .before .before .before .before .before .before .before .before .args .s .now) _ d _ _ _ _ _ _ _ (c .before .before .before .before .before .before .before .before .before .before .before .before .before .before .before .before .before .loop-test .taken) (c .before .before .before .before .before .before .before .before .before .before .before .before .before .before .before .before .row-at .ensures) (c .before .before .before .before .before .before .before .before .before .before .before .before .before .before .before .opens .ensures) (c .before .before .before .before .before .before .before .before .before .before .before .before .before .before .open-length .ensures) (c .before .before .before .before .before .before .before .before .before .before .before .before .before .if1 .left) _ _ (c .before .before .before .before .before .before .before .before .before .read-element .ensures .1) _ (c .before .p .given .1) (c .before .before .before .before .before .before .before .before .before .before .before .before .before .before .before .before .before .before .loop .inv .going d h)),
 )
 
 read-children-enum-known-p-2 : (t : ℕ) → read-children-lts.Need-enum-known-p-2 (read-children-calls t) (read-children-at t) read-children.Post read-children-Inv-loop read-children-μ-loop
 read-children-enum-known-p-2 t c = search needs
 
 read-children-white-end-requires : (t : ℕ) → read-children-lts.Need-white-end-requires (read-children-calls t) (read-children-at t) read-children.Post read-children-Inv-loop read-children-μ-loop
-read-children-white-end-requires t c κs = child-read t (c .before) .1 .0
+read-children-white-end-requires t c κs = fine-ended (c .before .before .before .before .before .before .before .before .before .before .before .before .before .before .before .before .before .before .before .before .before .before .before .before .args .s .now) (c .before .before .before .before .before .before .before .before .before .before .before .before .before .before .before .before .before .before .loop .at) _ _ _ (c .before .p2 .given .1) (c .before .before .before .before .before .before .before .before .before .read-element .ensures .0) .1 .0
 
 read-children-loop-less-2 : (t : ℕ) → read-children-lts.Need-loop-less-2 (read-children-calls t) (read-children-at t) read-children.Post read-children-Inv-loop read-children-μ-loop
-read-children-loop-less-2 t c =
-    let r = led _ _ (c .before .before .before .before .before .before .before .before .before .before .before .before .before .before .before .before .loop-test .taken) (c .before .before .before .before .before .before .before .before .before .before .before .before .before .before .before .row-at .ensures) in
-    let f = child-read t (c .before .before) in
+read-children-loop-less-2 t c = let r = led _ _ (c .before .before .before .before .before .before .before .before .before .before .before .before .before .before .before .before .before .before .loop-test .taken) (c .before .before .before .before .before .before .before .before .before .before .before .before .before .before .before .before .before .row-at .ensures) in
+    let f = fine-ended (c .before .before .before .before .before .before .before .before .before .before .before .before .before .before .before .before .before .before .before .before .before .before .before .before .before .args .s .now) (c .before .before .before .before .before .before .before .before .before .before .before .before .before .before .before .before .before .before .before .loop .at) _ _ _ (c .before .before .p2 .given .1) (c .before .before .before .before .before .before .before .before .before .before .read-element .ensures .0) in
     let w = run-in white _ _ _ (f .1 .0) (c .white-end .ensures) in
     omega arith
 
 read-children-loop-again-2 : (t : ℕ) → read-children-lts.Need-loop-again-2 (read-children-calls t) (read-children-at t) read-children.Post read-children-Inv-loop read-children-μ-loop
-read-children-loop-again-2 t c =
-    let k = c .before .before .before .before .before .before .before .before .before .before .before .before .before .before .before .before .before .loop .inv in
-    let r = led _ _ (c .before .before .before .before .before .before .before .before .before .before .before .before .before .before .before .before .loop-test .taken) (c .before .before .before .before .before .before .before .before .before .before .before .before .before .before .before .row-at .ensures) in
-    let f = child-read t (c .before .before) in
+read-children-loop-again-2 t c = let k = c .before .before .before .before .before .before .before .before .before .before .before .before .before .before .before .before .before .before .before .loop .inv in
+    let r = led _ _ (c .before .before .before .before .before .before .before .before .before .before .before .before .before .before .before .before .before .before .loop-test .taken) (c .before .before .before .before .before .before .before .before .before .before .before .before .before .before .before .before .before .row-at .ensures) in
+    let f = fine-ended (c .before .before .before .before .before .before .before .before .before .before .before .before .before .before .before .before .before .before .before .before .before .before .before .before .before .args .s .now) (c .before .before .before .before .before .before .before .before .before .before .before .before .before .before .before .before .before .before .before .loop .at) _ _ _ (c .before .before .p2 .given .1) (c .before .before .before .before .before .before .before .before .before .before .read-element .ensures .0) in
     let w = run-in white _ _ _ (f .1 .0) (c .white-end .ensures) in
     record {
       behind = omega arith;
       inside = w .1;
       row = r .next;
       bounds = within-more (f .1 .1) (w .0);
+      kept-long = search needs;
       slips-long = search needs;
       rows-long = search needs;
-      going = λ d h. going-child (c .before .before .before .before .before .before .before .before .before .before .before .before .before .before .before .before .before .before .before .before .before .before .args .s .now) _ d _ _ _ _ _ _ _ (c .before .before .before .before .before .before .before .before .before .before .before .before .before .before .before .before .loop-test .taken) (c .before .before .before .before .before .before .before .before .before .before .before .before .before .before .before .row-at .ensures) (c .before .before .before .before .before .before .before .before .before .before .before .before .before .before .element-at2 .ensures) (c .before .before .before .before .before .before .before .before .before .before .before .before .before .opens .ensures) (c .before .before .before .before .before .before .before .before .before .before .before .if1 .left) _ _ _
-          (c .before .before .before .before .before .before .before .before .read-element .ensures .1) _ _ _ (c .before .before .p2 .given .1) (c .white-end .ensures) (k .going d h);
+      going = λ d h. going-child (c .before .before .before .before .before .before .before .before .before .before .before .before .before .before .before .before .before .before .before .before .before .before .before .before .before .args .s .now) _ d _ _ _ _ _ _ _ (c .before .before .before .before .before .before .before .before .before .before .before .before .before .before .before .before .before .before .loop-test .taken) (c .before .before .before .before .before .before .before .before .before .before .before .before .before .before .before .before .before .row-at .ensures) (c .before .before .before .before .before .before .before .before .before .before .before .before .before .before .before .before .opens .ensures) (c .before .before .before .before .before .before .before .before .before .before .before .before .before .before .before .open-length .ensures) (c .before .before .before .before .before .before .before .before .before .before .before .before .before .before .if1 .left) _ _ (c .before .before .before .before .before .before .before .before .before .before .read-element .ensures .1) _ _ (c .before .before .p2 .given .1) (c .white-end .ensures) (k .going d h);
     }
 
 read-children-read-close-requires : (t : ℕ) → read-children-lts.Need-read-close-requires (read-children-calls t) (read-children-at t) read-children.Post read-children-Inv-loop read-children-μ-loop
-read-children-read-close-requires t c κs = (c .before .before .before .before .before .before .pre .1 .known, c .before .loop .inv .inside)
+read-children-read-close-requires t c κs = (c .before .before .before .before .before .before .before .pre .1 .known, c .before .loop .inv .inside)
 
-read-children-same-length-5 : (t : ℕ) → read-children-lts.Need-same-length-5 (read-children-calls t) (read-children-at t) read-children.Post read-children-Inv-loop read-children-μ-loop
-read-children-same-length-5 t c = c .before .before .loop .inv .slips-long
+read-children-same-length-7 : (t : ℕ) → read-children-lts.Need-same-length-7 (read-children-calls t) (read-children-at t) read-children.Post read-children-Inv-loop read-children-μ-loop
+read-children-same-length-7 t c = c .before .before .loop .inv .kept-long
 
-read-children-same-length-6 : (t : ℕ) → read-children-lts.Need-same-length-6 (read-children-calls t) (read-children-at t) read-children.Post read-children-Inv-loop read-children-μ-loop
-read-children-same-length-6 t c = c .before .before .loop .inv .rows-long
+read-children-same-length-8 : (t : ℕ) → read-children-lts.Need-same-length-8 (read-children-calls t) (read-children-at t) read-children.Post read-children-Inv-loop read-children-μ-loop
+read-children-same-length-8 t c = c .before .before .loop .inv .slips-long
+
+read-children-same-length-9 : (t : ℕ) → read-children-lts.Need-same-length-9 (read-children-calls t) (read-children-at t) read-children.Post read-children-Inv-loop read-children-μ-loop
+read-children-same-length-9 t c = c .before .before .loop .inv .rows-long
 
 read-children-returns-3 : (t : ℕ) → read-children-lts.Need-returns-3 (read-children-calls t) (read-children-at t) read-children.Post read-children-Inv-loop read-children-μ-loop
-read-children-returns-3 t c =
-    let k = c .before .before .loop .inv in
-    let q = c .before .before .before .before .before .before .before .pre .1 .known in (
-      subst (Fine (c .before .before .before .before .before .before .before .args .s .now) (c .before .before .before .before .before .before .before .args .from)) (sym (c .read-close .ensures))
-          (fine-from (c .before .before .before .before .before .before .before .args .s .now) (c .before .before .before .before .before .before .before .args .from) (c .before .before .loop .at) (k .behind) (closed (c .before .before .before .before .before .before .before .args .s .now) (c .before .before .before .before .before .before .before .args .e) (c .before .before .loop .far) (c .before .before .loop .at) (c .before .before .loop .st))
-          (closed-fine (c .before .before .before .before .before .before .before .args .s .now) (c .before .before .before .before .before .before .before .args .e) (c .before .before .loop .far) (c .before .before .loop .at) (c .before .before .loop .st) q (k .inside) (k .bounds))),
-      λ d h. ap (λ (x : Reading). told (c .before .before .before .before .before .before .before .args .s .now) x (c .before .before .loop .slips) (c .before .before .loop .rows)) (c .read-close .ensures)
-          ∙ going-close _ _ _ d _ _ _ _ _ _ h (c .before .loop-test .left) (k .going d h),
+read-children-returns-3 t c = let k = c .before .before .loop .inv in
+    let a = c .before .before .before .before .before .before .before .before .args in
+    let l = c .before .before .loop in (
+      subst (λ (x : Reading). Fine (a .s .now) (a .from) x (stateOf (l .kept))) (sym (c .read-close .ensures))
+          (fine-from (a .s .now) (a .from) (l .at) (stateOf (l .kept)) (k .behind) (closed (a .s .now) (a .e) (l .far) (l .at)) (closed-fine (a .s .now) (a .e) (l .far) (l .at) (stateOf (l .kept)) (c .before .before .before .before .before .before .before .before .pre .1 .known) (k .inside) (k .bounds))),
+      λ d h. ap (λ (x : Reading). told (a .s .now) x (carried (l .kept) (l .slips) (l .rows))) (c .read-close .ensures) ∙ going-close _ _ _ d _ _ _ _ h (c .before .loop-test .left) (k .going d h),
     )
 
-read-element-element-at-requires : (t : ℕ) → read-element-lts.Need-element-at-requires (read-element-calls t) (read-element-at t) read-element.Post
-read-element-element-at-requires t c κs = c .before .before .before .pre .1 .known
+read-element-part-of-requires : (t : ℕ) → read-element-lts.Need-part-of-requires (read-element-calls t) (read-element-at t) read-element.Post
+read-element-part-of-requires t c κs = c .before .before .before .before .pre .1 .known
 
-read-element-sub-start : (t : ℕ) → read-element-lts.Need-sub-start (read-element-calls t) (read-element-at t) read-element.Post
-read-element-sub-start t c = let p = placed _ _ (c .before .before .before .before .before .pre .1 .known) (c .before .element-at .ensures) in omega arith
+read-element-kind-at-requires : (t : ℕ) → read-element-lts.Need-kind-at-requires (read-element-calls t) (read-element-at t) read-element.Post
+read-element-kind-at-requires t c κs = c .before .before .before .before .before .pre .1 .known
+
+read-element-open-length-requires : (t : ℕ) → read-element-lts.Need-open-length-requires (read-element-calls t) (read-element-at t) read-element.Post
+read-element-open-length-requires t c κs = c .before .before .before .before .before .before .pre .1 .known
 
 read-element-add-start : (t : ℕ) → read-element-lts.Need-add-start (read-element-calls t) (read-element-at t) read-element.Post
-read-element-add-start t c = let q = room-is _ _ _ _ _ (c .before .before .before .before .before .pre .1) (c .before .element-at .ensures) in omega (arith, c .before .before .before .before .before .pre .1 .short)
+read-element-add-start t c = omega (arith, room-is _ _ _ _ _ (c .before .before .before .before .before .before .before .pre .1) (c .open-length .ensures), c .before .before .before .before .before .before .before .pre .1 .short)
 
 read-element-run-end-requires : (t : ℕ) → read-element-lts.Need-run-end-requires (read-element-calls t) (read-element-at t) read-element.Post
-read-element-run-end-requires t c κs = room-is _ _ _ _ _ (c .before .before .before .before .before .pre .1) (c .before .element-at .ensures)
+read-element-run-end-requires t c κs = room-is _ _ _ _ _ (c .before .before .before .before .before .before .before .pre .1) (c .open-length .ensures)
 
-read-element-sub-t14 : (t : ℕ) → read-element-lts.Need-sub-t14 (read-element-calls t) (read-element-at t) read-element.Post
-read-element-sub-t14 t c =
-    let q = room-is _ _ _ _ _ (c .before .before .before .before .before .before .pre .1) (c .before .before .element-at .ensures) in
-    run-in _ _ _ _ q (c .run-end .ensures) .0
+read-element-sub-t12 : (t : ℕ) → read-element-lts.Need-sub-t12 (read-element-calls t) (read-element-at t) read-element.Post
+read-element-sub-t12 t c = run-in _ _ _ _ (room-is _ _ _ _ _ (c .before .before .before .before .before .before .before .before .pre .1) (c .before .open-length .ensures)) (c .run-end .ensures) .0
 
 read-element-on-event-requires : (t : ℕ) → read-element-lts.Need-on-event-requires (read-element-calls t) (read-element-at t) read-element.Post
-read-element-on-event-requires t c κs =
-    let q = room-is _ _ _ _ _ (c .before .before .before .before .before .before .before .before .pre .1) (c .before .before .before .before .element-at .ensures) in
-    let p = placed _ _ (c .before .before .before .before .before .before .before .before .pre .1 .known) (c .before .before .before .before .element-at .ensures) in
-    let w = run-in _ _ _ _ q (c .before .before .run-end .ensures) in
-    let f = fits _ _ (c .before .before .before .before .before .before .before .before .pre .1 .known) (c .before .before .before .before .element-at .ensures) in
-    (c .before .before .before .before .before .before .before .before .pre .1 .short, omega arith, omega arith, c .before .before .before .before .before .before .before .before .pre .1 .bounds, record { amount = f .amount; scheme = f .scheme; sequence = f .sequence })
+read-element-on-event-requires t c κs = let q = room-is _ _ _ _ _ (c .before .before .before .before .before .before .before .before .before .before .before .pre .1) (c .before .before .before .before .open-length .ensures) in
+    let p = placed _ _ (c .before .before .before .before .before .before .before .before .before .before .before .pre .1 .known) refl in
+    let w = run-in _ _ _ _ q (c .before .before .before .run-end .ensures) in
+    let f = fits _ _ (c .before .before .before .before .before .before .before .before .before .before .before .pre .1 .known) refl in (
+      c .before .before .before .before .before .before .before .before .before .before .before .pre .1 .long,
+      c .before .before .before .before .before .before .before .before .before .before .before .pre .1 .short,
+      omega arith,
+      omega (arith, c .before .before .before .before .open-length .ensures),
+      c .before .before .before .before .before .before .before .before .before .before .before .pre .1 .bounds,
+      record {
+        amount = λ h. c .before .before .before .before .before .kind-at .ensures ∙ f .amount (sym (c .before .before .before .before .before .before .part-of .ensures) ∙ h);
+        scheme = λ h. c .before .before .before .before .before .kind-at .ensures ∙ f .scheme (sym (c .before .before .before .before .before .before .part-of .ensures) ∙ h);
+        sequence = λ h. c .before .before .before .before .before .kind-at .ensures ∙ f .sequence (sym (c .before .before .before .before .before .before .part-of .ensures) ∙ h);
+      },
+    )
 
 read-element-read-children-requires : (t : ℕ) → read-element-lts.Need-read-children-requires (read-element-calls t) (read-element-at t) read-element.Post
-read-element-read-children-requires t c κs =
-    let q = room-is _ _ _ _ _ (c .before .before .before .before .before .before .before .before .before .before .before .before .before .before .before .pre .1) (c .before .before .before .before .before .before .before .before .before .before .before .element-at .ensures) in
-    let p = placed _ _ (c .before .before .before .before .before .before .before .before .before .before .before .before .before .before .before .pre .1 .known) (c .before .before .before .before .before .before .before .before .before .before .before .element-at .ensures) in
-    let w = run-in _ _ _ _ q (c .before .before .before .before .before .before .before .before .before .run-end .ensures) in
-    let m = c .before .before .before .before .before .before .before .before .before .before .before .before .before .before .before .pre .0 in
-    (omega arith, record { short = c .before .before .before .before .before .before .before .before .before .before .before .before .before .before .before .pre .1 .short; known = c .before .before .before .before .before .before .before .before .before .before .before .before .before .before .before .pre .1 .known; room = w .1; bounds = within-more (c .before .before .before .before .before .before .on-event .ensures .0) (w .0) })
+read-element-read-children-requires t c κs = let q = room-is _ _ _ _ _ (c .before .before .before .before .before .before .before .before .before .before .before .before .before .before .before .before .before .before .before .before .before .pre .1) (c .before .before .before .before .before .before .before .before .before .before .before .before .before .before .open-length .ensures) in
+    let p = placed _ _ (c .before .before .before .before .before .before .before .before .before .before .before .before .before .before .before .before .before .before .before .before .before .pre .1 .known) refl in
+    let w = run-in _ _ _ _ q (c .before .before .before .before .before .before .before .before .before .before .before .before .before .run-end .ensures) in
+    let m = c .before .before .before .before .before .before .before .before .before .before .before .before .before .before .before .before .before .before .before .before .before .pre .0 in (
+      omega (arith, c .before .before .before .before .before .before .before .before .before .before .before .before .before .before .open-length .ensures),
+      record {
+        short = c .before .before .before .before .before .before .before .before .before .before .before .before .before .before .before .before .before .before .before .before .before .pre .1 .short;
+        known = c .before .before .before .before .before .before .before .before .before .before .before .before .before .before .before .before .before .before .before .before .before .pre .1 .known;
+        room = w .1;
+        long = search needs;
+        bounds = within-more (c .before .before .before .before .before .before .before .before .before .on-event .ensures .0) (w .0);
+      },
+    )
 
 read-element-same-length : (t : ℕ) → read-element-lts.Need-same-length (read-element-calls t) (read-element-at t) read-element.Post
 read-element-same-length t c = search needs
@@ -298,14 +313,14 @@ read-element-same-length t c = search needs
 read-element-same-length-2 : (t : ℕ) → read-element-lts.Need-same-length-2 (read-element-calls t) (read-element-at t) read-element.Post
 read-element-same-length-2 t c = search needs
 
+read-element-same-length-3 : (t : ℕ) → read-element-lts.Need-same-length-3 (read-element-calls t) (read-element-at t) read-element.Post
+read-element-same-length-3 t c = search needs
+
 read-element-returns : (t : ℕ) → read-element-lts.Need-returns (read-element-calls t) (read-element-at t) read-element.Post
-read-element-returns t c =
-    let q = room-is _ _ _ _ _ (c .before .before .before .before .before .before .before .before .before .before .before .before .before .before .before .before .before .before .before .before .pre .1) (c .before .before .before .before .before .before .before .before .before .before .before .before .before .before .before .before .element-at .ensures) in
-    let p = placed _ _ (c .before .before .before .before .before .before .before .before .before .before .before .before .before .before .before .before .before .before .before .before .pre .1 .known) (c .before .before .before .before .before .before .before .before .before .before .before .before .before .before .before .before .element-at .ensures) in
-    let w = run-in _ _ _ _ q (c .before .before .before .before .before .before .before .before .before .before .before .before .before .before .run-end .ensures) in (
-      fine-from (c .before .before .before .before .before .before .before .before .before .before .before .before .before .before .before .before .before .before .before .before .args .s .now) (c .before .before .before .before .before .before .before .before .before .before .before .before .before .before .before .before .before .before .before .before .args .at) (c .before .before .before .before .before .before .before .before .before .before .before .before .before .before .run-end .result) (omega arith) (c .before .before .before .before .read-children .result) (c .before .before .before .before .read-children .ensures .0),
-      element-read (c .before .before .before .before .before .before .before .before .before .before .before .before .before .before .before .before .before .before .before .before .args .s .now) _ _ _ _ _ _ _ _ _ _ _ _ _ (c .before .before .before .before .before .before .before .before .before .before .before .before .before .before .before .before .before .before .before .before .pre .1 .known) (c .before .before .before .before .before .before .before .before .before .before .before .before .before .before .before .before .element-at .ensures) refl (c .before .before .before .before .before .before .before .before .before .before .before .before .before .before .run-end .ensures) refl (c .before .before .before .before .before .before .before .before .before .before .before .on-event .ensures .1)
-          (c .before .before .before .before .read-children .ensures .1),
+read-element-returns t c = let q = room-is _ _ _ _ _ (c .before .before .before .before .before .before .before .before .before .before .before .before .before .before .before .before .before .before .before .before .before .before .before .before .before .before .before .before .pre .1) (c .before .before .before .before .before .before .before .before .before .before .before .before .before .before .before .before .before .before .before .before .before .open-length .ensures) in
+    let w = run-in _ _ _ _ q (c .before .before .before .before .before .before .before .before .before .before .before .before .before .before .before .before .before .before .before .before .run-end .ensures) in (
+      fine-from (c .before .before .before .before .before .before .before .before .before .before .before .before .before .before .before .before .before .before .before .before .before .before .before .before .before .before .before .before .args .s .now) (c .before .before .before .before .before .before .before .before .before .before .before .before .before .before .before .before .before .before .before .before .before .before .before .before .before .before .before .before .args .at) (c .before .before .before .before .before .before .before .before .before .before .before .before .before .before .before .before .before .before .before .before .run-end .result) _ (omega arith) (c .before .before .before .before .before .before .read-children .result) (c .before .before .before .before .before .before .read-children .ensures .0),
+      element-read (c .before .before .before .before .before .before .before .before .before .before .before .before .before .before .before .before .before .before .before .before .before .before .before .before .before .before .before .before .args .s .now) _ _ _ _ _ _ _ _ _ (c .before .before .before .before .before .before .before .before .before .before .before .before .before .before .before .before .before .before .before .before .before .before .before .before .before .before .before .before .pre .1 .known) (c .before .before .before .before .before .before .before .before .before .before .before .before .before .before .before .before .before .before .before .before .before .before .before .part-of .ensures) (c .before .before .before .before .before .before .before .before .before .before .before .before .before .before .before .before .before .before .before .before .before .before .kind-at .ensures) (ap (λ (j : ℕ). c .before .before .before .before .before .before .before .before .before .before .before .before .before .before .before .before .before .before .before .before .before .before .before .before .before .before .before .before .args .at + j) (c .before .before .before .before .before .before .before .before .before .before .before .before .before .before .before .before .before .before .before .before .before .open-length .ensures)) (c .before .before .before .before .before .before .before .before .before .before .before .before .before .before .before .before .before .before .before .before .run-end .ensures) (c .before .before .before .before .before .before .before .before .before .before .before .before .before .before .before .before .on-event .ensures .1) (c .before .before .before .before .before .before .read-children .ensures .1),
     )
 
 pub +read-children+read-element-spec : {M : Type 1} → statement M
@@ -315,42 +330,46 @@ pub +read-children+read-element-spec : {M : Type 1} → statement M
     read-children.Post
     read-children-Inv-loop
     read-children-μ-loop
-    (read-children-element-at-requires t)
+    (read-children-first-of-requires t)
     (read-children-loop-holds t)
     (read-children-row-at-requires t)
-    (read-children-element-at-requires-2 t)
     (read-children-opens-requires t)
-    (read-children-sub-if1 t)
+    (read-children-open-length-requires t)
     (read-children-add-later t)
     (read-children-later-requires t)
     (read-children-same-length t)
     (read-children-same-length-2 t)
+    (read-children-same-length-3 t)
     (read-children-returns t)
     (read-children-loop-less t)
     (read-children-loop-again t)
     (read-children-read-element-requires t)
     (read-children-enum-known-p t)
-    (read-children-same-length-3 t)
     (read-children-same-length-4 t)
+    (read-children-same-length-5 t)
+    (read-children-same-length-6 t)
     (read-children-returns-2 t)
     (read-children-enum-known-p-2 t)
     (read-children-white-end-requires t)
     (read-children-loop-less-2 t)
     (read-children-loop-again-2 t)
     (read-children-read-close-requires t)
-    (read-children-same-length-5 t)
-    (read-children-same-length-6 t)
+    (read-children-same-length-7 t)
+    (read-children-same-length-8 t)
+    (read-children-same-length-9 t)
     (read-children-returns-3 t))
     λ t. read-element-lts.spec (read-element-calls t)
     (read-element-at t)
     read-element.Post
-    (read-element-element-at-requires t)
-    (read-element-sub-start t)
+    (read-element-part-of-requires t)
+    (read-element-kind-at-requires t)
+    (read-element-open-length-requires t)
     (read-element-add-start t)
     (read-element-run-end-requires t)
-    (read-element-sub-t14 t)
+    (read-element-sub-t12 t)
     (read-element-on-event-requires t)
     (read-element-read-children-requires t)
     (read-element-same-length t)
     (read-element-same-length-2 t)
+    (read-element-same-length-3 t)
     (read-element-returns t)
