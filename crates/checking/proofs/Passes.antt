@@ -1,18 +1,23 @@
--- THE TWO PASSES OF THE CHECK over the message's events: the first answers, the second fills.
+-- A PASS OF THE CHECK over the message's events answers, and fills the tables that it is lent; and the check makes of it.
 --   carried           what is carried over the events is what it is over what they say
 --   Read, read-said   what a message that was read says, and what was carried behind it
 --   small             what was read keeps its numbers small
---   verdict-long, verdict-stuck, verdict-judged   the first pass
---   filled            the second pass
---   nothing-before    the tables of the first pass
---   check-refused, check-accepted   both together
-use Prim.Native.Nat.{ℕ, _≤_}
+--   verdict-long, verdict-stuck, verdict-judged   the answer of a pass
+--   filled-long, filled-stuck, filled             the tables of a pass
+--   take-put, copied  the front of a table that was filled; and copied
+--   Passed, accepted-room   an accepted message is read, its totals are the exact ones, and the tables have room for it
+--   check-refused, check-accepted, check-copied   the check: refused; accepted, and the tables filled, or copied
+use Prim.Native.Nat.{ℕ, _+_, _*_, _-_, _≤_}
 use native.Mathlib.Omega.{arith}
 use mathlib.Core.List.{List, [], _∷_, _++_}
-use mathlib.Core.Path.{_≡_, refl, ap, sym, subst, _∙_}
+use mathlib.Core.Option.{Option, none, some}
+use mathlib.Core.Path.{_≡_, refl, ap, sym, subst, subst⁻¹, _∙_}
 use mathlib.Core.Logic.{inl, inr}
-use lib.ListN.{length}
+use lib.ListN.{length, take, drop}
+use lib.Seq.{take-at, length-take-le}
 use Rattle.laws.specs.Bytes.{Bytes}
+use Rattle.laws.specs.Put.{putAt}
+use Rattle.laws.proofs.Puts.{put-back}
 use Rattle.profile.specs.Limits.{mostBytes}
 use Rattle.profile.specs.declared.Refusal.{Refusal}
 use Rattle.profile.specs.declared.Refusal.the-variants.{TooLong, NotOfTheForm}
@@ -21,8 +26,8 @@ use Rattle.tree.specs.declared.Event.{Event}
 use Rattle.tree.specs.Form.{Message, message, messageEvents}
 use Rattle.tree.specs.Pain008.{Document, declaration}
 use Rattle.message.specs.declared.Told.{Told}
-use Rattle.message.specs.Message.{tell, told}
-use Rattle.message.specs.Verdict.{Room}
+use Rattle.message.specs.Message.{tell, told, batchesOf}
+use Rattle.message.specs.Verdict.{Room, accepted, verdict, first, stages, totalsOf, verdictOf, slipsOf, rowsOf}
 use Rattle.answer.specs.declared.Checked.{Checked}
 use Rattle.answer.specs.declared.Checked.the-variants.{Accepted, Refused}
 use Rattle.state.specs.declared.State.{State}
@@ -32,13 +37,14 @@ use Rattle.state.specs.Fill.{Carried, stepOf, carryStep, filledSlips, filledRow
 use Rattle.state.proofs.Bounds.{within-more}
 use Rattle.state.proofs.Fold.{fold, project}
 use Rattle.answer.proofs.Right.{verdict-right}
-use Rattle.state.proofs.Rows.{rows-right}
-use Rattle.state.proofs.Slips.{slips-right}
+use Rattle.state.proofs.Rows.{rows-right, length-rows}
+use Rattle.state.proofs.Slips.{slips-right, length-slips-from}
 use Rattle.reader.specs.declared.Outcome.{Outcome}
 use Rattle.reader.specs.declared.Outcome.the-variants.{TooLong as LongOne, Stuck as StuckAt, Read as WasRead}
 use Rattle.reader.specs.Walk as walk
 use Rattle.reader.specs.Read.{ReadRight, Bounded}
 use Rattle.checking.specs.Check.{saidBy, roomOf, Checks}
+use Rattle.checking.specs.Demand2.{Enough}
 use Rattle.checking.specs.Inner.{Verdicts, Fills}
 use Rattle.checking.proofs.Accepts.{accepted-only}
 use Rattle.checking.proofs.Outcome.{same-said}
@@ -113,11 +119,6 @@ module _ (s : Bytes) (slips rows a b : List ℕ) (f : State) (o : Outcome) (g : 
       let d : record { state = st; slips = a; rows = b } ≡ fold carryStep c (saidBy m) = sym (y .ends) ∙ ap (fold carryStep c) (same-said (y .read) m s (y .bytes) k) in
       (p ∙ ap filledSlips d ∙ slips-right slips rows (saidBy m) (n .slips), q ∙ ap filledRows d ∙ rows-right slips rows (saidBy m) (n .rows))
 
--- a part of no length, put back at the front of a table
-pub nothing-before : (x l : List ℕ) → length x ≡ 0 → x ++ l ≡ l
-nothing-before [] l h = refl
-nothing-before (n ∷ x) l h = absurd (omega (arith, h))
-
 module _ (s : Bytes) (slips rows a b : List ℕ) where
   pub check-refused : (f : Refusal) → Verdicts s (roomOf slips rows) (Refused f) → a ≡ slips → b ≡ rows → Checks s slips rows (Refused f) a b
   unfolding Verdicts
@@ -126,11 +127,76 @@ module _ (s : Bytes) (slips rows a b : List ℕ) where
       record { case = inr (inl (record { short = h; not-of-form = x; place = n; is-place = i; answer = e; slips-kept = p; rows-kept = q })) }
   check-refused f (inr (inr (h, (m, (e, v))))) p q = record { case = inr (inr (record { short = h; read = m; bytes = e; answer = v; slips-are = p; rows-are = q })) }
 
-  pub check-accepted : (t : Totals) → Verdicts s (roomOf slips rows) (Accepted t) → Fills s slips rows a b → Checks s slips rows (Accepted t) a b
-  unfolding Verdicts Fills
-  check-accepted t (inl (h, e)) f = absurd (let z : _≡_ {A = ℕ} 0 1 = cc in omega arith)
-  check-accepted t (inr (inl (h, (x, (n, (i, e)))))) f = absurd (let z : _≡_ {A = ℕ} 0 1 = cc in omega arith)
-  check-accepted t (inr (inr (h, (m, (e, v))))) f =
-      let y = accepted-only (roomOf slips rows) (saidBy m) t (sym v) in
-      let g = f h m e (y .1 .1) in
-      record { case = inr (inr (record { short = h; read = m; bytes = e; answer = v; slips-are = g .0; rows-are = g .1 })) }
+-- ─── tables that were filled beside the lent ones ───
+
+-- the front of a table that was filled
+take-put : (l xs : List ℕ) (n : ℕ) → length xs ≡ n → take n (putAt l 0 xs) ≡ xs
+unfolding putAt
+take-put l xs n h = take-at xs (drop (0 + length xs) l) n h
+
+-- the front of a table that was lent, and came back as the front of another
+pub copied : (l xs ys : List ℕ) (n : ℕ) → n ≤ length xs → ys ≡ take (n - 0) (drop 0 xs) → take 0 l ++ (ys ++ drop (n - 0) (drop 0 l)) ≡ putAt l 0 (take n xs)
+copied l xs ys n h e =
+    let z : n - 0 ≡ n = omega arith in
+    let f : ys ≡ take n xs = rw z at e in
+    rw f (put-back l (take n xs) 0 n (omega arith) (omega (arith, length-take-le n xs h)))
+
+verdict-totals : (o : Option Refusal) (y z : Totals) → verdict o y ≡ accepted z → z ≡ y
+verdict-totals none y z e = cc
+verdict-totals (some f) y z e = absurd (let z : _≡_ {A = ℕ} 0 1 = cc in omega arith)
+
+module _ (s : Bytes) (room : Room) (t : Totals) (v : Verdicts s room (Accepted t)) where
+  -- an accepted message is read; its totals are the exact ones, and the tables have room for it
+  record Passed : Type 0 where
+    pub short : length s ≤ mostBytes
+    pub read : Message Document
+    pub bytes : message declaration read ≡ s
+    pub answer : verdictSaid (Accepted t) ≡ verdictOf room (saidBy read)
+    pub totals : t ≡ totalsOf (batchesOf (saidBy read))
+    pub enough : Enough room (saidBy read)
+
+  passed : Passed
+  unfolding Verdicts
+  passed = go v
+    where
+      go : Verdicts s room (Accepted t) → Passed
+      go (inl (h, e)) = absurd (let z : _≡_ {A = ℕ} 0 1 = cc in omega arith)
+      go (inr (inl (h, (x, (n, (i, e)))))) = absurd (let z : _≡_ {A = ℕ} 0 1 = cc in omega arith)
+      go (inr (inr (h, (m, (e, v))))) =
+          record { short = h; read = m; bytes = e; answer = v; totals = verdict-totals (first (stages room (saidBy m))) (totalsOf (batchesOf (saidBy m))) t (sym v); enough = accepted-only room (saidBy m) t (sym v) .1 .1 }
+
+  pub accepted-room : (12 * t .transactions .0 ≤ room .slips) × (8 * t .batches ≤ room .rows)
+  accepted-room =
+      let y = passed in
+      (subst⁻¹ (λ (z : Totals). 12 * z .transactions .0 ≤ room .slips) (y .totals) (y .enough .slips), subst⁻¹ (λ (z : Totals). 8 * z .batches ≤ room .rows) (y .totals) (y .enough .rows))
+
+module _ (s : Bytes) (slips rows slips′ rows′ : List ℕ) (t : Totals) (v : Verdicts s (roomOf slips rows) (Accepted t)) where
+  pub check-accepted : Fills s slips rows slips′ rows′ → Checks s slips rows (Accepted t) slips′ rows′
+  unfolding Fills
+  check-accepted f =
+      let y = passed s (roomOf slips rows) t v in
+      let g = f (y .short) (y .read) (y .bytes) (y .enough) in
+      record { case = inr (inr (record { short = y .short; read = y .read; bytes = y .bytes; answer = y .answer; slips-are = g .0; rows-are = g .1 })) }
+
+  pub check-copied : (a₀ b₀ a b : List ℕ) → Fills s a₀ b₀ a b → 12 * t .transactions .0 ≤ length a₀ → 8 * t .batches ≤ length b₀
+      → slips′ ≡ putAt slips 0 (take (12 * t .transactions .0) a) → rows′ ≡ putAt rows 0 (take (8 * t .batches) b) → Checks s slips rows (Accepted t) slips′ rows′
+  unfolding Fills
+  check-copied a₀ b₀ a b f p q x y =
+      let z = passed s (roomOf slips rows) t v in
+      let ts : List Told = saidBy (z .read) in
+      let g = f (z .short) (z .read) (z .bytes) (record {
+        slips = subst (λ (u : Totals). 12 * u .transactions .0 ≤ length a₀) (z .totals) p;
+        rows = subst (λ (u : Totals). 8 * u .batches ≤ length b₀) (z .totals) q;
+      }) in
+      let n : length (slipsOf ts) ≡ 12 * t .transactions .0 = length-slips-from 1 (batchesOf ts) ∙ ap (λ (u : Totals). 12 * u .transactions .0) (sym (z .totals)) in
+      let m : length (rowsOf ts) ≡ 8 * t .batches = length-rows 0 (batchesOf ts) ∙ ap (λ (u : Totals). 8 * u .batches) (sym (z .totals)) in
+      record {
+        case = inr (inr (record {
+          short = z .short;
+          read = z .read;
+          bytes = z .bytes;
+          answer = z .answer;
+          slips-are = x ∙ ap (λ (l : List ℕ). putAt slips 0 (take (12 * t .transactions .0) l)) (g .0) ∙ ap (putAt slips 0) (take-put a₀ (slipsOf ts) _ n);
+          rows-are = y ∙ ap (λ (l : List ℕ). putAt rows 0 (take (8 * t .batches) l)) (g .1) ∙ ap (putAt rows 0) (take-put b₀ (rowsOf ts) _ m);
+        }));
+      }

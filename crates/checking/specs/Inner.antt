@@ -1,4 +1,4 @@
--- WHAT THE TWO PASSES OF THE CHECK COME TO. Not to be believed: the promise is Check.
+-- WHAT A PASS OF THE CHECK COMES TO. Not to be believed: the promise is Check.
 --   Verdicts s room r                     the answer r on the message s, with tables of this room
 --   Fills s slips rows slips′ rows′       the tables of a message that is read, with room for its slips and rows
 use Prim.Native.Nat.{ℕ, _<_, _≤_}

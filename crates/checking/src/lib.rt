@@ -1,5 +1,8 @@
 // The check of a message.
-ghost use lib.ListN.{length};
+ghost use mathlib.Core.Path.{_≡_};
+ghost use Prim.Native.Nat.{_≤_};
+ghost use lib.ListN.{length, take};
+ghost use Rattle.laws.specs.Put.{putAt};
 ghost use Rattle.message.specs.Verdict.{Room};
 ghost use Rattle.checking.specs.Check.{Checks};
 ghost use Rattle.checking.specs.Inner.{Verdicts, Fills};
@@ -8,40 +11,90 @@ use profile::Refusal;
 use reader::Outcome;
 use state::State;
 
-// The verdict on a message, where the tables have `slips` and `rows` numbers. Nothing is lent to be filled: `none` and `nil` have no length.
-fn verdict(message: &[u8], none: &mut [u64], nil: &mut [u64], slips: usize, rows: usize) -> Checked
-    ensures { λ r. ⌜ Verdicts (now (message .entry)) (record { slips = slips; rows = rows }) r ⌝ }
+// One pass over a message: its slips and rows into the tables `a` and `b`, where these have room for them, and the verdict on it with tables of `slips` and
+// `rows` numbers.
+fn pass(message: &[u8], a: &mut [u64], b: &mut [u64], slips: usize, rows: usize) -> Checked
+    ensures verdict { λ r. ⌜ Verdicts (now (message .entry)) (record { slips = slips; rows = rows }) r ⌝ }
+    ensures fills { λ r. ⌜ Fills (now (message .entry)) (now (a .entry)) (now (b .entry)) (now (a .exit)) (now (b .exit)) ⌝ }
 {
-    match reader::read(message, State::fresh(), none, nil) {
+    match reader::read(message, State::fresh(), a, b) {
         Outcome::TooLong => Checked::Refused(Refusal::TooLong),
         Outcome::Stuck(place) => Checked::Refused(Refusal::NotOfTheForm(place)),
-        Outcome::Read(state) => answer::answer(state, slips, rows),
+        Outcome::Read(state) => {
+            fill::finish(state, a, b);
+            answer::answer(state, slips, rows)
+        }
     }
 }
 
-// The slips and rows of a message, put into its tables.
-fn fill(message: &[u8], slips: &mut [u64], rows: &mut [u64])
-    ensures { λ _. ⌜ Fills (now (message .entry)) (now (slips .entry)) (now (rows .entry)) (now (slips .exit)) (now (rows .exit)) ⌝ }
+// All of `numbers` over the whole of `kept`.
+fn copy(kept: &mut [u64], numbers: &[u64])
+    requires { ⌜ length (now kept) ≡ length (now numbers) ⌝ }
+    ensures { λ _. ⌜ now (kept .exit) ≡ now (numbers .entry) ⌝ }
 {
-    match reader::read(message, State::fresh(), slips, rows) {
-        Outcome::TooLong => {}
-        Outcome::Stuck(_) => {}
-        Outcome::Read(state) => fill::finish(state, slips, rows),
+    let mut i = 0;
+    while i < numbers.len() {
+        kept[i] = numbers[i];
+        i += 1;
     }
 }
 
-// The check: the verdict first; the tables are filled only where it accepts.
-pub fn check(message: &[u8], slips: &mut [u64], rows: &mut [u64]) -> Checked
+// The check with tables `a` and `b` of its own for the pass. The lent tables are written only where the message is accepted: they are copied, or filled by a
+// second pass where the others had no room for them.
+fn check_beside(
+    message: &[u8],
+    a: &mut [u64],
+    b: &mut [u64],
+    slips: &mut [u64],
+    rows: &mut [u64],
+) -> Checked
     ensures { λ r. ⌜ Checks (now (message .entry)) (now (slips .entry)) (now (rows .entry)) r (now (slips .exit)) (now (rows .exit)) ⌝ }
 {
-    let n = slips.len();
-    let m = rows.len();
-    let checked = verdict(message, &mut slips[0..0], &mut rows[0..0], n, m);
+    let k = slips.len();
+    let l = rows.len();
+    let checked = pass(message, a, b, k, l);
     match checked {
         Checked::Refused(refusal) => Checked::Refused(refusal),
         Checked::Accepted(totals) => {
-            fill(message, slips, rows);
+            let n = 12 * totals.transactions.0 as usize;
+            let m = 8 * totals.batches as usize;
+            if n <= a.len() {
+                if m <= b.len() {
+                    copy(&mut slips[0..n], &a[0..n]);
+                    copy(&mut rows[0..m], &b[0..m]);
+                    return Checked::Accepted(totals);
+                }
+            }
+            pass(message, slips, rows, k, l);
             Checked::Accepted(totals)
         }
     }
+}
+
+// The check of a short message, with room for the slips of 200 transactions.
+fn check_short(message: &[u8], slips: &mut [u64], rows: &mut [u64]) -> Checked
+    ensures { λ r. ⌜ Checks (now (message .entry)) (now (slips .entry)) (now (rows .entry)) r (now (slips .exit)) (now (rows .exit)) ⌝ }
+{
+    let mut a = [0u64; 2400];
+    let mut b = [0u64; 512];
+    check_beside(message, &mut a, &mut b, slips, rows)
+}
+
+// The check of a long message, with room for every slip and row that the profile allows.
+fn check_long(message: &[u8], slips: &mut [u64], rows: &mut [u64]) -> Checked
+    ensures { λ r. ⌜ Checks (now (message .entry)) (now (slips .entry)) (now (rows .entry)) r (now (slips .exit)) (now (rows .exit)) ⌝ }
+{
+    let mut a = [0u64; 24000];
+    let mut b = [0u64; 512];
+    check_beside(message, &mut a, &mut b, slips, rows)
+}
+
+// The check: one pass over the message, and a second one only where a short message has more transactions than fit beside it.
+pub fn check(message: &[u8], slips: &mut [u64], rows: &mut [u64]) -> Checked
+    ensures { λ r. ⌜ Checks (now (message .entry)) (now (slips .entry)) (now (rows .entry)) r (now (slips .exit)) (now (rows .exit)) ⌝ }
+{
+    if message.len() <= 65536 {
+        return check_short(message, slips, rows);
+    }
+    check_long(message, slips, rows)
 }

@@ -1,6 +1,7 @@
 -- THE ROWS of a filled table are those of the message, where they have room; and the tables keep their lengths.
 --   row-right     the numbers of the open batch are those of the batch
 --   batch-row     a batch puts its row
+--   length-rows   how many numbers the rows of batches are
 --   rows-right    THE THEOREM, for every list of events
 --   Sized, Kept   a list as long as another; tables that keep their lengths
 --   tables-kept   the tables keep their lengths, and empty ones stay empty
@@ -103,7 +104,7 @@ rows-pieces : (m : ℕ) (ps : List (List Told)) → pieces (λ m p. row m (batch
 rows-pieces m [] = refl
 rows-pieces m (p ∷ ps) = ap (λ (l : List ℕ). row m (batchOf p) ++ l) (rows-pieces (m + count (batchOf p)) ps)
 
-length-rows : (m : ℕ) (xs : List M.Batch) → length (rowsFrom m xs) ≡ 8 * length xs
+pub length-rows : (m : ℕ) (xs : List M.Batch) → length (rowsFrom m xs) ≡ 8 * length xs
 length-rows m [] = refl
 length-rows m (x ∷ xs) = omega (arith, length-append (row m x) (rowsFrom (m + count x) xs), length-row m x, length-rows (m + count x) xs)
 

@@ -2,6 +2,7 @@
 --   Texts, textsStep, nextTexts   a batch's number and sums, the open transaction's texts and the table; behind an event, and where a transaction begins
 --   transaction-slip    a transaction puts its slip
 --   part-slips, batch-slips   a batch puts its slips
+--   length-slips-from   how many numbers the slips of batches are
 --   slips-right         THE THEOREM, for every list of events
 use Prim.Native.Nat.{ℕ, zero, suc, _+_, _*_, _≤_}
 use native.Mathlib.Nat.{add-zero}
@@ -198,7 +199,7 @@ slips-pieces : (k : ℕ) (ps : List (List Told)) → pieces slipsOfPart (λ k p.
 slips-pieces k [] = refl
 slips-pieces k (p ∷ ps) = ap (λ (l : List ℕ). slipsOfPart k p ++ l) (slips-pieces (suc k) ps)
 
-length-slips-from : (k : ℕ) (xs : List M.Batch) → length (slipsFrom k xs) ≡ 12 * total count xs
+pub length-slips-from : (k : ℕ) (xs : List M.Batch) → length (slipsFrom k xs) ≡ 12 * total count xs
 length-slips-from k [] = refl
 length-slips-from k (x ∷ xs) =
     omega (arith, length-append (gather (slip k) (x .transactions)) (slipsFrom (suc k) xs), length-slips k (x .transactions), length-slips-from (suc k) xs)
