@@ -71,21 +71,21 @@ module _ (s : Bytes) (slips rows : List ℕ) (st : State) (a b : List ℕ) where
     pub bytes : message declaration read ≡ s
     pub ends : fold carryStep begun (saidBy read) ≡ behind
 
-  read-said : ReadRight s begun (WasRead st) a b → Read
+  read-said : ReadRight s begun WasRead behind → Read
   unfolding ReadRight
   read-said (h, (m, e, f)) =
       record { short = h; read = m; bytes = e; ends = ap (λ (x : Bytes). fold carryStep begun (tell x (messageEvents declaration m))) e ∙ sym (carried s begun (messageEvents declaration m)) ∙ f }
 
--- what reading promises, with the state that it began with and the answer that it gave
-abbrev Reads : Bytes → State → List ℕ → List ℕ → Outcome → List ℕ → List ℕ → Type 0
-Reads s f slips rows o a b = ReadRight s (record { state = f; slips = slips; rows = rows }) o a b
+-- what reading promises, with the state that it began with, the answer that it gave, and the state behind it
+abbrev Reads : Bytes → State → List ℕ → List ℕ → Outcome → State → List ℕ → List ℕ → Type 0
+Reads s f slips rows o st a b = ReadRight s (record { state = f; slips = slips; rows = rows }) o (record { state = st; slips = a; rows = b })
 
-module _ (s : Bytes) (slips rows a b : List ℕ) (f : State) (o : Outcome) (g : f ≡ fresh) (h : Reads s f slips rows o a b) where
-  seen : (x : Outcome) → o ≡ x → Reads s fresh slips rows x a b
-  seen x e = subst (λ (y : Outcome). Reads s fresh slips rows y a b) e (subst (λ (y : State). Reads s y slips rows o a b) g h)
+module _ (s : Bytes) (slips rows a b : List ℕ) (f st : State) (o : Outcome) (g : f ≡ fresh) (h : Reads s f slips rows o st a b) where
+  seen : (x : Outcome) → o ≡ x → Reads s fresh slips rows x st a b
+  seen x e = subst (λ (y : Outcome). Reads s fresh slips rows y st a b) e (subst (λ (y : State). Reads s y slips rows o st a b) g h)
 
-  pub small : (st : State) → o ≡ WasRead st → Bounded (length s) o → Within mostBytes st
-  small st e w = within-more (subst (Bounded (length s)) e w) (read-said s slips rows st a b (seen (WasRead st) e) .short)
+  pub small : (x : State) → x ≡ st → o ≡ WasRead → Bounded (length s) o st → Within mostBytes x
+  small x d e w = rw d (within-more (subst (λ (y : Outcome). Bounded (length s) y st) e w) (read-said s slips rows st a b (seen WasRead e) .short))
 
   pub verdict-long : (room : Room) → o ≡ LongOne → Verdicts s room (Refused TooLong)
   unfolding ReadRight Verdicts
@@ -95,12 +95,12 @@ module _ (s : Bytes) (slips rows a b : List ℕ) (f : State) (o : Outcome) (g : 
   unfolding ReadRight Verdicts
   verdict-stuck room n e = let y = seen (StuckAt n) e in inr (inl (y .0, (y .1 .0, (n, (y .1 .1, refl)))))
 
-  pub verdict-judged : (room : Room) (st : State) (r : Checked) → o ≡ WasRead st → verdictSaid r ≡ answer room st → Verdicts s room r
+  pub verdict-judged : (room : Room) (x : State) (r : Checked) → x ≡ st → o ≡ WasRead → verdictSaid r ≡ answer room x → Verdicts s room r
   unfolding Verdicts
-  verdict-judged room st r e q =
-      let y = read-said s slips rows st a b (seen (WasRead st) e) in
+  verdict-judged room x r k e q =
+      let y = read-said s slips rows st a b (seen WasRead e) in
       let d : st ≡ fold step fresh (saidBy (y .read)) = sym (ap (λ (c : Carried). c .state) (y .ends)) ∙ alone (begun s slips rows st a b) (saidBy (y .read)) in
-      inr (inr (y .short, (y .read, (y .bytes, q ∙ ap (answer room) d ∙ verdict-right (saidBy (y .read)) room))))
+      inr (inr (y .short, (y .read, (y .bytes, q ∙ ap (answer room) (k ∙ d) ∙ verdict-right (saidBy (y .read)) room))))
 
   pub filled-long : (a′ b′ : List ℕ) → o ≡ LongOne → Fills s slips rows a′ b′
   unfolding ReadRight Fills
@@ -110,13 +110,15 @@ module _ (s : Bytes) (slips rows a b : List ℕ) (f : State) (o : Outcome) (g : 
   unfolding ReadRight Fills
   filled-stuck a′ b′ p e l m y n = absurd (seen (StuckAt p) e .1 .0 (m, y))
 
-  pub filled : (st : State) (a′ b′ : List ℕ) → o ≡ WasRead st
-      → a′ ≡ filledSlips (record { state = st; slips = a; rows = b }) → b′ ≡ filledRows (record { state = st; slips = a; rows = b }) → Fills s slips rows a′ b′
+  pub filled : (x : State) (a′ b′ : List ℕ) → x ≡ st → o ≡ WasRead → a′ ≡ filledSlips (record { state = x; slips = a; rows = b })
+      → b′ ≡ filledRows (record { state = x; slips = a; rows = b }) → Fills s slips rows a′ b′
   unfolding Fills
-  filled st a′ b′ e p q _ m k n =
-      let y = read-said s slips rows st a b (seen (WasRead st) e) in
+  filled x a′ b′ k e p q _ m j n =
+      let y = read-said s slips rows st a b (seen WasRead e) in
       let c : Carried = begun s slips rows st a b in
-      let d : record { state = st; slips = a; rows = b } ≡ fold carryStep c (saidBy m) = sym (y .ends) ∙ ap (fold carryStep c) (same-said (y .read) m s (y .bytes) k) in
+      let d : record { state = x; slips = a; rows = b } ≡ fold carryStep c (saidBy m) =
+      ap (λ (z : State). record { state = z; slips = a; rows = b }) k ∙ sym (y .ends) ∙ ap (fold carryStep c) (same-said (y .read) m s (y .bytes) j)
+      in
       (p ∙ ap filledSlips d ∙ slips-right slips rows (saidBy m) (n .slips), q ∙ ap filledRows d ∙ rows-right slips rows (saidBy m) (n .rows))
 
 module _ (s : Bytes) (slips rows a b : List ℕ) where

@@ -9,7 +9,6 @@ ghost use Rattle.checking.specs.Inner.{Verdicts, Fills};
 use answer::Checked;
 use profile::Refusal;
 use reader::Outcome;
-use state::State;
 
 // One pass over a message: its slips and rows into the tables `a` and `b`, where these have room for them, and the verdict on it with tables of `slips` and
 // `rows` numbers.
@@ -17,25 +16,15 @@ fn pass(message: &[u8], a: &mut [u64], b: &mut [u64], slips: usize, rows: usize)
     ensures verdict { λ r. ⌜ Verdicts (now (message .entry)) (record { slips = slips; rows = rows }) r ⌝ }
     ensures fills { λ r. ⌜ Fills (now (message .entry)) (now (a .entry)) (now (b .entry)) (now (a .exit)) (now (b .exit)) ⌝ }
 {
-    match reader::read(message, State::fresh(), a, b) {
+    let mut kept = kept::fresh();
+    match reader::read(message, &mut kept, a, b) {
         Outcome::TooLong => Checked::Refused(Refusal::TooLong),
         Outcome::Stuck(place) => Checked::Refused(Refusal::NotOfTheForm(place)),
-        Outcome::Read(state) => {
+        Outcome::Read => {
+            let state = kept::state_of(&kept);
             fill::finish(state, a, b);
             answer::answer(state, slips, rows)
         }
-    }
-}
-
-// All of `numbers` over the whole of `kept`.
-fn copy(kept: &mut [u64], numbers: &[u64])
-    requires { ⌜ length (now kept) ≡ length (now numbers) ⌝ }
-    ensures { λ _. ⌜ now (kept .exit) ≡ now (numbers .entry) ⌝ }
-{
-    let mut i = 0;
-    while i < numbers.len() {
-        kept[i] = numbers[i];
-        i += 1;
     }
 }
 
@@ -60,8 +49,8 @@ fn check_beside(
             let m = 8 * totals.batches as usize;
             if n <= a.len() {
                 if m <= b.len() {
-                    copy(&mut slips[0..n], &a[0..n]);
-                    copy(&mut rows[0..m], &b[0..m]);
+                    kept::copy(&mut slips[0..n], &a[0..n]);
+                    kept::copy(&mut rows[0..m], &b[0..m]);
                     return Checked::Accepted(totals);
                 }
             }

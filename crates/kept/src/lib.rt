@@ -3,6 +3,7 @@ ghost use mathlib.Core.Path.{_≡_};
 ghost use Prim.Native.Nat.{ℕ};
 ghost use lib.ListN.{length};
 ghost use Rattle.state.specs.declared.FirstBad.the-variants.{At};
+ghost use Rattle.state.specs.State.{fresh};
 ghost use Rattle.kept.specs.Kept.{keptLength, headerOf, tallyOf, slipOf, stateOf, badOf, overOf, countOf, sumOf, faultOf, openOf};
 use profile::Batch;
 use profile::ControlSum;
@@ -349,8 +350,15 @@ fn numbers(state: State) -> [u64; 41]
     ]
 }
 
+// Nothing was read.
+pub fn fresh() -> [u64; 41]
+    ensures { λ r. ⌜ stateOf r ≡ fresh ⌝ }
+{
+    numbers(State::fresh())
+}
+
 // All of `numbers` over the whole of `kept`.
-fn copy(kept: &mut [u64], numbers: &[u64])
+pub fn copy(kept: &mut [u64], numbers: &[u64])
     requires { ⌜ length (now kept) ≡ length (now numbers) ⌝ }
     ensures { λ _. ⌜ now (kept .exit) ≡ now (numbers .entry) ⌝ }
 {
