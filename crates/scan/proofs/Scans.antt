@@ -1,5 +1,6 @@
 -- WHAT THE LEAVES FIND: `common` at a place of the whole, and the classes of a run.
 --   common-go, common-miss, common-out, common-whole   a loop that holds a word against the bytes at a place
+--   common-front                                       the front of a message agrees whole
 --   white-last, text-no, text-yes                      a byte of a run
 --   run-in                                             a run ends at or behind its place, and within the message
 --   common-le, common-in                               no more agrees than there is
@@ -47,6 +48,12 @@ module _ (s w : Bytes) (at i : ℕ) where
 
   pub common-whole : length w ≤ i → common (drop (at + i) s) (drop i w) ≡ 0
   common-whole h = rw (drop-of-length-le w h) (common-nil (drop (at + i) s))
+
+-- the front of a message agrees whole
+pub common-front : (s : Bytes) (n : ℕ) → n ≤ length s → common s (take n s) ≡ n
+common-front s zero h = common-nil s
+common-front [] (suc n) h = absurd (omega arith)
+common-front (a ∷ s) (suc n) h = common-yes a a s (take n s) refl ∙ ap suc (common-front s n (le-of-suc-le-suc h))
 
 -- ─── runs ───
 

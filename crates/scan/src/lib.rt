@@ -1,9 +1,12 @@
-// The leaves of the reader: how far a word agrees, and where white space and a text end.
+// The leaves of the reader: how far a word agrees, bytes as one number, and where white space and a text end.
 ghost use mathlib.Core.Path.{_≡_};
-ghost use Prim.Native.Nat.{_+_, _≤_, max};
-ghost use lib.ListN.{length, drop};
+ghost use mathlib.Core.Bool.{true};
+ghost use Prim.Native.Nat.{_+_, _≤_, _<_, max};
+ghost use lib.Dec.{eqb};
+ghost use lib.ListN.{length, take, drop};
 ghost use Rattle.laws.specs.Bytes.{span};
 ghost use Rattle.tree.specs.Form.{white, inText, inRun, common};
+ghost use Rattle.scan.specs.Words.{little, headOf, tailOf};
 use tree::Kind;
 
 // How many bytes of `word` stand at `at`.
@@ -22,6 +25,59 @@ pub fn agrees(s: &[u8], at: usize, word: &[u8]) -> usize
         i += 1;
     }
     i
+}
+
+// A byte as a number.
+fn wide(b: u8) -> u64
+    ensures { λ r. ⌜ (r ≡ b) × (r < 256) ⌝ }
+{
+    b as u64
+}
+
+// The four bytes from `at` on as one number, low byte first.
+pub fn half_at(s: &[u8], at: usize) -> u64
+    requires { ⌜ at + 4 ≤ length (now s) ⌝ }
+    ensures exact { λ r. ⌜ r ≡ little (take 4 (drop at (now (s .entry)))) ⌝ }
+    ensures small { λ r. ⌜ r < 4294967296 ⌝ }
+{
+    wide(s[at]) + wide(s[at + 1]) * 256 + wide(s[at + 2]) * 65536 + wide(s[at + 3]) * 16777216
+}
+
+// The eight bytes from `at` on.
+pub fn word_at(s: &[u8], at: usize) -> u64
+    requires { ⌜ at + 8 ≤ length (now s) ⌝ }
+    ensures { λ r. ⌜ r ≡ little (take 8 (drop at (now (s .entry)))) ⌝ }
+{
+    half_at(s, at) + half_at(s, at + 4) * 4294967296
+}
+
+// Are there n bytes from `at` on, 16 at most, and are the first of them those of the number `head`: four of n below eight, else eight? No may also be that n is
+// too large for that.
+pub fn starts(s: &[u8], at: usize, n: usize, head: u64) -> bool
+    requires { ⌜ (at ≤ length (now s)) × (4 ≤ n) ⌝ }
+    ensures { λ r. ⌜ (r ≡ true → (at + n ≤ length (now (s .entry))) × ((n ≤ 16) × (headOf (take n (drop at (now (s .entry)))) ≡ head))) ⌝ }
+{
+    if s.len() - at < n {
+        return false;
+    }
+    if n < 8 {
+        return half_at(s, at) == head;
+    }
+    if 16 < n {
+        return false;
+    }
+    word_at(s, at) == head
+}
+
+// Are the last of the n bytes from `at` on, as many, those of the number `tail`?
+pub fn ends(s: &[u8], at: usize, n: usize, tail: u64) -> bool
+    requires { ⌜ (at + n ≤ length (now s)) × (4 ≤ n) ⌝ }
+    ensures { λ r. ⌜ r ≡ eqb (tailOf (take n (drop at (now (s .entry))))) tail ⌝ }
+{
+    if n < 8 {
+        return half_at(s, at + (n - 4)) == tail;
+    }
+    word_at(s, at + (n - 8)) == tail
 }
 
 // Space, tab, CR or LF.

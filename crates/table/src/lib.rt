@@ -1,10 +1,11 @@
-// The profile tree as tables: one row of tags, a row for each element, a row for each item. That they hold the tree of specs/ is proofs/Held.
-// A table of rows is a `match` on the row's number, which costs a few instructions; a constant array is made anew on the stack at each use.
+// The profile tree as tables: one row of tags, a table for each field of an element, a row for each item. That they hold the tree of specs/ is proofs/Held.
+// A table is a `match` on a number, which costs a few instructions; a constant array is made anew on the stack at each use. tools/tables prints them.
 ghost use mathlib.Core.Path.{_≡_};
 ghost use mathlib.Core.List.{[]};
 ghost use Prim.Native.Nat.{_-_, _≤_, _<_};
 ghost use lib.ListN.{length, take, drop, getD};
 ghost use Rattle.tree.specs.Form.{common};
+ghost use Rattle.scan.specs.Words.{headOf, tailOf};
 ghost use Rattle.table.specs.Table.{elementCount, rowsEnd, tagBytes, tags, rows, elementAt, rowAt, openTag, closeTag};
 use text::Rule;
 use tree::Kind;
@@ -33,6 +34,8 @@ pub const END: usize = 62;
 // Each element's opening tag and closing tag, in the order of the opening tags.
 const TAGS: [u8; 1132] =
     *b"<Document xmlns=\"urn:iso:std:iso:20022:tech:xsd:pain.008.001.08\"></Document><CstmrDrctDbtInitn></CstmrDrctDbtInitn><GrpHdr></GrpHdr><MsgId></MsgId><CreDtTm></CreDtTm><NbOfTxs></NbOfTxs><CtrlSum></CtrlSum><InitgPty></InitgPty><Nm></Nm><PmtInf></PmtInf><PmtInfId></PmtInfId><PmtMtd></PmtMtd><BtchBookg></BtchBookg><NbOfTxs></NbOfTxs><CtrlSum></CtrlSum><PmtTpInf></PmtTpInf><SvcLvl></SvcLvl><Cd></Cd><LclInstrm></LclInstrm><Cd></Cd><SeqTp></SeqTp><ReqdColltnDt></ReqdColltnDt><Cdtr></Cdtr><Nm></Nm><CdtrAcct></CdtrAcct><Id></Id><IBAN></IBAN><CdtrAgt></CdtrAgt><FinInstnId></FinInstnId><BICFI></BICFI><Othr></Othr><Id></Id><ChrgBr></ChrgBr><CdtrSchmeId></CdtrSchmeId><Id></Id><PrvtId></PrvtId><Othr></Othr><Id></Id><SchmeNm></SchmeNm><Prtry></Prtry><DrctDbtTxInf></DrctDbtTxInf><PmtId></PmtId><InstrId></InstrId><EndToEndId></EndToEndId><InstdAmt Ccy=\"EUR\"></InstdAmt><DrctDbtTx></DrctDbtTx><MndtRltdInf></MndtRltdInf><MndtId></MndtId><DtOfSgntr></DtOfSgntr><DbtrAgt></DbtrAgt><FinInstnId></FinInstnId><BICFI></BICFI><Othr></Othr><Id></Id><Dbtr></Dbtr><Nm></Nm><DbtrAcct></DbtrAcct><Id></Id><IBAN></IBAN><RmtInf></RmtInf><Ustrd></Ustrd>";
+
+// ─── an element, by its number ───
 
 // The part that an element plays.
 pub fn part_of(e: usize) -> usize
@@ -454,6 +457,290 @@ fn open_start(e: usize) -> usize
     }
 }
 
+// ─── the ends of an element's tags ───
+
+// The first bytes of an element's opening tag as a number: four of a tag below eight bytes, else eight.
+fn open_head(e: usize) -> u64
+    requires { ⌜ e < elementCount ⌝ }
+    ensures { λ r. ⌜ r ≡ headOf (openTag (elementAt e)) ⌝ }
+{
+    match e {
+        0 => 7954884667766686780,
+        1 => 8233831833170821948,
+        2 => 4499769239983507260,
+        3 => 1735609660,
+        4 => 7878049485286425404,
+        5 => 8320493109962231356,
+        6 => 7887302047651087164,
+        7 => 8381312656219195708,
+        8 => 1047350844,
+        9 => 4496402539741007932,
+        10 => 5289036074158215228,
+        11 => 4495846204037222460,
+        12 => 8029709676737479228,
+        13 => 8320493109962231356,
+        14 => 7887302047651087164,
+        15 => 7947006525504835644,
+        16 => 4498100198294573884,
+        17 => 1046758204,
+        18 => 8391171792351480892,
+        19 => 1046758204,
+        20 => 1902465852,
+        21 => 7813537977189356092,
+        22 => 1952727868,
+        23 => 1047350844,
+        24 => 7161639792284025660,
+        25 => 1046759740,
+        26 => 1094863164,
+        27 => 8387744790835643196,
+        28 => 8391171792385427004,
+        29 => 1128874556,
+        30 => 1752452924,
+        31 => 1046759740,
+        32 => 4499731989765047100,
+        33 => 7521947553682965308,
+        34 => 1046759740,
+        35 => 4495799092574834748,
+        36 => 1752452924,
+        37 => 1046759740,
+        38 => 7876344318894756668,
+        39 => 1953648700,
+        40 => 8386340722792612924,
+        41 => 1953321020,
+        42 => 7226432921571051836,
+        43 => 7945879525817992508,
+        44 => 7872684074935929148,
+        45 => 8386340722792612924,
+        46 => 8389170865739025724,
+        47 => 4495799092272581948,
+        48 => 7955418965658059836,
+        49 => 8387744790835512380,
+        50 => 8391171792385427004,
+        51 => 1128874556,
+        52 => 1752452924,
+        53 => 1046759740,
+        54 => 1952597052,
+        55 => 1047350844,
+        56 => 7161639792283894844,
+        57 => 1046759740,
+        58 => 1094863164,
+        59 => 4496402539741008444,
+        _ => 1953715516,
+    }
+}
+
+// The last bytes of its opening tag, as many.
+fn open_tail(e: usize) -> u64
+    requires { ⌜ e < elementCount ⌝ }
+    ensures { λ r. ⌜ r ≡ tailOf (openTag (elementAt e)) ⌝ }
+{
+    match e {
+        0 => 4477202759144255536,
+        1 => 4498661073960399970,
+        2 => 4499769239983507260,
+        3 => 1046759783,
+        4 => 4498344461153432131,
+        5 => 4500072756562321998,
+        6 => 4498380603975169091,
+        7 => 4501757191215409518,
+        8 => 1047350844,
+        9 => 4496402539741007932,
+        10 => 4495799032308397165,
+        11 => 4495846204037222460,
+        12 => 4496680879304894563,
+        13 => 4500072756562321998,
+        14 => 4498380603975169091,
+        15 => 4496402539672269933,
+        16 => 4498100198294573884,
+        17 => 1046758204,
+        18 => 4498377447291373932,
+        19 => 1046758204,
+        20 => 1047549041,
+        21 => 4500297168840322159,
+        22 => 1047688292,
+        23 => 1047350844,
+        24 => 4500331205600900196,
+        25 => 1046759740,
+        26 => 1045315906,
+        27 => 4500335458440733763,
+        28 => 4495799066771549769,
+        29 => 1044989507,
+        30 => 1047685236,
+        31 => 1046759740,
+        32 => 4499731989765047100,
+        33 => 4495799027998679891,
+        34 => 1046759740,
+        35 => 4495799092574834748,
+        36 => 1047685236,
+        37 => 1046759740,
+        38 => 4498337800347214675,
+        39 => 1048146548,
+        40 => 4496402539806487650,
+        41 => 1046759796,
+        42 => 4495799083951418953,
+        43 => 4495799023718199124,
+        44 => 4477231505745263993,
+        45 => 4501440686398403683,
+        46 => 4496402539473038418,
+        47 => 4495799092272581948,
+        48 => 4499786995225290319,
+        49 => 4500335458440733252,
+        50 => 4495799066771549769,
+        51 => 1044989507,
+        52 => 1047685236,
+        53 => 1046759740,
+        54 => 1047688290,
+        55 => 1047350844,
+        56 => 4500331205600900194,
+        57 => 1046759740,
+        58 => 1045315906,
+        59 => 4496402539741008444,
+        _ => 1046770292,
+    }
+}
+
+// The first bytes of its closing tag.
+fn close_head(e: usize) -> u64
+    requires { ⌜ e < elementCount ⌝ }
+    ensures { λ r. ⌜ r ≡ headOf (closeTag (elementAt e)) ⌝ }
+{
+    match e {
+        0 => 7308626840221134652,
+        1 => 4932124888841531196,
+        2 => 8242792865785655100,
+        3 => 4495799036687494972,
+        4 => 6085564198983774012,
+        5 => 8670667673732788028,
+        6 => 8454220164337184572,
+        7 => 5793727441806110524,
+        8 => 1833840444,
+        9 => 7380917603705827132,
+        10 => 7380917603705827132,
+        11 => 7238495663536746300,
+        12 => 8017085063034449724,
+        13 => 8670667673732788028,
+        14 => 8454220164337184572,
+        15 => 5291822421187243836,
+        16 => 7815518193418710844,
+        17 => 1682124604,
+        18 => 8317666291671117628,
+        19 => 1682124604,
+        20 => 4499188873751113532,
+        21 => 8017362199843581756,
+        22 => 1682124604,
+        23 => 1833840444,
+        24 => 7152123527464955708,
+        25 => 1682517820,
+        26 => 1112092476,
+        27 => 7440353903616667452,
+        28 => 8317666300361322300,
+        29 => 4488195758457237308,
+        30 => 1951346492,
+        31 => 1682517820,
+        32 => 8233256809859854140,
+        33 => 7157190077045747516,
+        34 => 1682517820,
+        35 => 7226435129165492028,
+        36 => 1951346492,
+        37 => 1682517820,
+        38 => 5649041602716577596,
+        39 => 4501755146993151804,
+        40 => 7080912484600917820,
+        41 => 4495799092421603132,
+        42 => 5292420551234105148,
+        43 => 5003310501355401020,
+        44 => 4712019149256732476,
+        45 => 7080912484600917820,
+        46 => 7805429078882594620,
+        47 => 7226435051788775228,
+        48 => 7445407100412636988,
+        49 => 7440353903583178556,
+        50 => 8317666300361322300,
+        51 => 4488195758457237308,
+        52 => 1951346492,
+        53 => 1682517820,
+        54 => 1648635708,
+        55 => 1833840444,
+        56 => 7152123527431466812,
+        57 => 1682517820,
+        58 => 1112092476,
+        59 => 7380917603705958204,
+        _ => 4495844172499332924,
+    }
+}
+
+// The last bytes of its closing tag, as many.
+fn close_tail(e: usize) -> u64
+    requires { ⌜ e < elementCount ⌝ }
+    ensures { λ r. ⌜ r ≡ tailOf (closeTag (elementAt e)) ⌝ }
+{
+    match e {
+        0 => 4500343309557130095,
+        1 => 4498661073960399970,
+        2 => 4499769239983507247,
+        3 => 4495799036687494972,
+        4 => 4498344461153432131,
+        5 => 4500072756562321998,
+        6 => 4498380603975169091,
+        7 => 4501757191215409518,
+        8 => 1047350831,
+        9 => 4496402539741007919,
+        10 => 4495799032308397165,
+        11 => 4495846204037222447,
+        12 => 4496680879304894563,
+        13 => 4500072756562321998,
+        14 => 4498380603975169091,
+        15 => 4496402539672269933,
+        16 => 4498100198294573871,
+        17 => 1046758191,
+        18 => 4498377447291373932,
+        19 => 1046758191,
+        20 => 4499188873751113532,
+        21 => 4500297168840322159,
+        22 => 1047688292,
+        23 => 1047350831,
+        24 => 4500331205600900196,
+        25 => 1046759727,
+        26 => 1045315906,
+        27 => 4500335458440733763,
+        28 => 4495799066771549769,
+        29 => 4488195758457237308,
+        30 => 1047685236,
+        31 => 1046759727,
+        32 => 4499731989765047087,
+        33 => 4495799027998679891,
+        34 => 1046759727,
+        35 => 4495799092574834735,
+        36 => 1047685236,
+        37 => 1046759727,
+        38 => 4498337800347214675,
+        39 => 4501755146993151804,
+        40 => 4496402539806487650,
+        41 => 4495799092421603132,
+        42 => 4495799083951418953,
+        43 => 4495799023718199124,
+        44 => 4500342055275623278,
+        45 => 4501440686398403683,
+        46 => 4496402539473038418,
+        47 => 4495799092272581935,
+        48 => 4499786995225290319,
+        49 => 4500335458440733252,
+        50 => 4495799066771549769,
+        51 => 4488195758457237308,
+        52 => 1047685236,
+        53 => 1046759727,
+        54 => 1047688290,
+        55 => 1047350831,
+        56 => 4500331205600900194,
+        57 => 1046759727,
+        58 => 1045315906,
+        59 => 4496402539741008431,
+        _ => 4495844172499332924,
+    }
+}
+
+// ─── a row, by its number ───
+
 // The numbers of a row, in the order of its fields.
 fn row_numbers(k: usize) -> [usize; 3]
     requires { ⌜ k < rowsEnd ⌝ }
@@ -541,6 +828,8 @@ pub fn row_at(k: usize) -> Row
     }
 }
 
+// ─── the tags at a place ───
+
 // How many bytes of the stretch of the tags from `from` to `to` stand at a place.
 fn agrees(s: &[u8], at: usize, from: usize, to: usize) -> usize
     requires { ⌜ (at ≤ length (now s)) × ((from ≤ to) × (to ≤ tagBytes)) ⌝ }
@@ -549,8 +838,8 @@ fn agrees(s: &[u8], at: usize, from: usize, to: usize) -> usize
     scan::agrees(s, at, &TAGS[from..to])
 }
 
-// How many bytes of an element's opening tag stand at a place.
-pub fn opens(s: &[u8], at: usize, e: usize) -> usize
+// How many bytes of an element's opening tag stand at a place, byte by byte.
+fn open_agrees(s: &[u8], at: usize, e: usize) -> usize
     requires { ⌜ (at ≤ length (now s)) × (e < elementCount) ⌝ }
     ensures { λ r. ⌜ r ≡ common (drop at (now (s .entry))) (openTag (elementAt e)) ⌝ }
 {
@@ -560,11 +849,39 @@ pub fn opens(s: &[u8], at: usize, e: usize) -> usize
 }
 
 // How many bytes of its closing tag.
-pub fn closes(s: &[u8], at: usize, e: usize) -> usize
+fn close_agrees(s: &[u8], at: usize, e: usize) -> usize
     requires { ⌜ (at ≤ length (now s)) × (e < elementCount) ⌝ }
     ensures { λ r. ⌜ r ≡ common (drop at (now (s .entry))) (closeTag (elementAt e)) ⌝ }
 {
     let from = open_start(e) + open_length(e);
     let n = close_length(e);
     agrees(s, at, from, from + n)
+}
+
+// How many bytes of an element's opening tag stand at a place: all of them, where the bytes there have both its ends.
+pub fn opens(s: &[u8], at: usize, e: usize) -> usize
+    requires { ⌜ (at ≤ length (now s)) × (e < elementCount) ⌝ }
+    ensures { λ r. ⌜ r ≡ common (drop at (now (s .entry))) (openTag (elementAt e)) ⌝ }
+{
+    let n = open_length(e);
+    if scan::starts(s, at, n, open_head(e)) {
+        if scan::ends(s, at, n, open_tail(e)) {
+            return n;
+        }
+    }
+    open_agrees(s, at, e)
+}
+
+// How many bytes of its closing tag.
+pub fn closes(s: &[u8], at: usize, e: usize) -> usize
+    requires { ⌜ (at ≤ length (now s)) × (e < elementCount) ⌝ }
+    ensures { λ r. ⌜ r ≡ common (drop at (now (s .entry))) (closeTag (elementAt e)) ⌝ }
+{
+    let n = close_length(e);
+    if scan::starts(s, at, n, close_head(e)) {
+        if scan::ends(s, at, n, close_tail(e)) {
+            return n;
+        }
+    }
+    close_agrees(s, at, e)
 }

@@ -1,42 +1,57 @@
--- `table::closes` meets its contract: the tag is the stretch of the tags that the element names.
-use mathlib.Core.Path.{ap, _∙_}
+-- `table::closes` meets its contract: where the bytes at the place have both ends of the closing tag, the tag stands there whole.
+use mathlib.Core.Path.{refl, sym, _∙_}
 use native.Mathlib.Omega.{arith}
-use lib.ListN.{drop}
-use Rattle.tree.specs.Form.{common}
-use Rattle.table.proofs.Held.{open-end, close-stretch}
+use Rattle.scan.proofs.Words.{stands}
+use Rattle.table.specs.Table.{elementAt, closeTag}
+use Rattle.table.proofs.Held.{placed, close-length}
+use Rattle.table.proofs.Ends.{close-bytes, least}
 use borrow.Author.Needs.{needs}
 use Rattle.table.proofs.closes.Statement.{statement}
 use Rattle.table.proofs.closes.Tie as tie
 
-open-start-requires : tie.Need-open-start-requires
-open-start-requires c κs = search needs
-
-open-length-requires : tie.Need-open-length-requires
-open-length-requires c κs = search needs
-
-add-from : tie.Need-add-from
-add-from c = omega (arith, open-end _ _ _ (c .before .before .before .pre .1) (c .before .open-start .ensures) (c .open-length .ensures) .0)
-
 close-length-requires : tie.Need-close-length-requires
 close-length-requires c κs = search needs
 
-add-agrees : tie.Need-add-agrees
-add-agrees c =
-    let h = c .before .before .before .before .pre .1 in
-    omega (arith, close-stretch _ _ _ h (open-end _ _ _ h (c .before .before .open-start .ensures) (c .before .open-length .ensures) .1) (c .close-length .ensures) .0)
+close-head-requires : tie.Need-close-head-requires
+close-head-requires c κs = search needs
 
-agrees-requires : tie.Need-agrees-requires
-agrees-requires c κs =
-    let h = c .before .before .before .before .pre .1 in
-    omega (arith, close-stretch _ _ _ h (open-end _ _ _ h (c .before .before .open-start .ensures) (c .before .open-length .ensures) .1) (c .close-length .ensures) .0)
+starts-requires : tie.Need-starts-requires
+starts-requires c κs = omega (arith, least (c .before .before .before .args .e) (c .before .before .before .pre .1) .closes)
+
+close-tail-requires : tie.Need-close-tail-requires
+close-tail-requires c κs = search needs
+
+ends-requires : tie.Need-ends-requires
+ends-requires c κs =
+    let a = c .before .before .before .before .before .before .args in
+    omega (arith, c .before .before .starts .ensures (c .before .if1 .taken) .0, least (a .e) (c .before .before .before .before .before .before .pre .1) .closes)
 
 returns : tie.Need-returns
 returns c =
-    let a = c .before .before .before .before .before .args in
-    let h = c .before .before .before .before .before .pre .1 in
-    c .agrees .ensures ∙ ap (common (drop (a .at) (a .s .now))) (close-stretch _ _ _ h (open-end _ _ _ h (c .before .before .before .open-start .ensures) (c .before .before .open-length .ensures) .1) (c .before .close-length .ensures) .1)
+    let a = c .before .before .before .before .before .before .before .before .args in
+    let h = c .before .before .before .before .before .before .before .before .pre .1 in
+    let x = elementAt (a .e) in
+    let n = c .before .before .before .before .before .before .close-length .ensures in
+    stands (a .s .now) (closeTag x) (a .at) _ _ _ (λ i. omega (arith, c .before .before .before .before .before .before .before .shared-slice-known .given i)) (close-bytes x)
+    (close-length x (placed (a .e) x h refl) ∙ sym n) (omega (arith, n, least (a .e) h .closes))
+    (c .before .before .before .before .before .close-head .ensures) (c .before .before .close-tail .ensures)
+    (c .before .before .before .before .starts .ensures (c .before .before .before .if1 .taken)) (sym (c .before .ends .ensures) ∙ c .if2 .taken)
+
+close-agrees-requires : tie.Need-close-agrees-requires
+close-agrees-requires c κs = search needs
+
+returns-2 : tie.Need-returns-2
+returns-2 c = search needs
 
 pub closes-spec : {M : Type 1} → statement M
 closes-spec =
     tie.close
-    (tie.spec open-start-requires open-length-requires add-from close-length-requires add-agrees agrees-requires returns)
+    (tie.spec
+    close-length-requires
+    close-head-requires
+    starts-requires
+    close-tail-requires
+    ends-requires
+    returns
+    close-agrees-requires
+    returns-2)

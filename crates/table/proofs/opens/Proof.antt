@@ -1,31 +1,57 @@
--- `table::opens` meets its contract: the tag is the stretch of the tags that the element names.
-use mathlib.Core.Path.{ap, _∙_}
+-- `table::opens` meets its contract: where the bytes at the place have both ends of the opening tag, the tag stands there whole.
+use mathlib.Core.Path.{refl, sym, _∙_}
 use native.Mathlib.Omega.{arith}
-use lib.ListN.{drop}
-use Rattle.tree.specs.Form.{common}
-use Rattle.table.proofs.Held.{open-stretch}
+use Rattle.scan.proofs.Words.{stands}
+use Rattle.table.specs.Table.{elementAt, openTag}
+use Rattle.table.proofs.Held.{placed, open-length}
+use Rattle.table.proofs.Ends.{open-bytes, least}
 use borrow.Author.Needs.{needs}
 use Rattle.table.proofs.opens.Statement.{statement}
 use Rattle.table.proofs.opens.Tie as tie
 
-open-start-requires : tie.Need-open-start-requires
-open-start-requires c κs = search needs
-
 open-length-requires : tie.Need-open-length-requires
 open-length-requires c κs = search needs
 
-add-agrees : tie.Need-add-agrees
-add-agrees c = omega (arith, open-stretch _ _ _ (c .before .before .before .pre .1) (c .before .open-start .ensures) (c .open-length .ensures) .0)
+open-head-requires : tie.Need-open-head-requires
+open-head-requires c κs = search needs
 
-agrees-requires : tie.Need-agrees-requires
-agrees-requires c κs = omega (arith, open-stretch _ _ _ (c .before .before .before .pre .1) (c .before .open-start .ensures) (c .open-length .ensures) .0)
+starts-requires : tie.Need-starts-requires
+starts-requires c κs = omega (arith, least (c .before .before .before .args .e) (c .before .before .before .pre .1) .opens)
+
+open-tail-requires : tie.Need-open-tail-requires
+open-tail-requires c κs = search needs
+
+ends-requires : tie.Need-ends-requires
+ends-requires c κs =
+    let a = c .before .before .before .before .before .before .args in
+    omega (arith, c .before .before .starts .ensures (c .before .if1 .taken) .0, least (a .e) (c .before .before .before .before .before .before .pre .1) .opens)
 
 returns : tie.Need-returns
 returns c =
-    let a = c .before .before .before .before .args in
-    c .agrees .ensures ∙ ap (common (drop (a .at) (a .s .now))) (open-stretch _ _ _ (c .before .before .before .before .pre .1) (c .before .before .open-start .ensures) (c .before .open-length .ensures) .1)
+    let a = c .before .before .before .before .before .before .before .before .args in
+    let h = c .before .before .before .before .before .before .before .before .pre .1 in
+    let x = elementAt (a .e) in
+    let n = c .before .before .before .before .before .before .open-length .ensures in
+    stands (a .s .now) (openTag x) (a .at) _ _ _ (λ i. omega (arith, c .before .before .before .before .before .before .before .shared-slice-known .given i)) (open-bytes x)
+    (open-length x (placed (a .e) x h refl) ∙ sym n) (omega (arith, n, least (a .e) h .opens))
+    (c .before .before .before .before .before .open-head .ensures) (c .before .before .open-tail .ensures)
+    (c .before .before .before .before .starts .ensures (c .before .before .before .if1 .taken)) (sym (c .before .ends .ensures) ∙ c .if2 .taken)
+
+open-agrees-requires : tie.Need-open-agrees-requires
+open-agrees-requires c κs = search needs
+
+returns-2 : tie.Need-returns-2
+returns-2 c = search needs
 
 pub opens-spec : {M : Type 1} → statement M
 opens-spec =
     tie.close
-    (tie.spec open-start-requires open-length-requires add-agrees agrees-requires returns)
+    (tie.spec
+    open-length-requires
+    open-head-requires
+    starts-requires
+    open-tail-requires
+    ends-requires
+    returns
+    open-agrees-requires
+    returns-2)
