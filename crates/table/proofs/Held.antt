@@ -3,12 +3,12 @@
 --   Held, held         of an element that the tables hold: its part, kind, tags and first row
 --   Placed, placed; Led, led   of every element and every row
 --   HeldRow, held-row  of a row: its element, and the rows behind it; held-none: where no item is left
+--   open-length, close-length   the lengths of an element's tags; open-stretch, close-stretch, open-end: where they stand among the tags
 use Prim.Native.Nat.{ℕ, _+_, _-_, _<_, _≤_}
 use mathlib.Core.Bool.{Bool, true, false, not, _&&_}
-use mathlib.Core.List.{[]}
 use mathlib.Core.Path.{_≡_, refl, ap, subst⁻¹, _∙_}
 use lib.Dec.{T, T-not, eqb, leb, ltb, ltb→lt, leb→le, eqb→eq}
-use lib.ListN.{length, take, drop, getD, length-take, length-drop}
+use lib.ListN.{length, take, drop, length-take, length-drop}
 use native.Mathlib.Omega.{arith}
 use Rattle.laws.specs.Bytes.{same}
 use Rattle.laws.proofs.Tests.{and-l, and-r, and-both}
