@@ -6,21 +6,21 @@
 --   fits-all                    a text is of a class where each mark of its pattern is of a class whose marks stand for such bytes
 --   or-rest                     of two tests of which one holds, the second holds where the first fails
 --   letter-within               a byte of a run is in the letter set, by one computed test of the run
---   letter-other                a byte of a run, but for space, `:` and `?`, is in the letter set just where it is a letter or digit, by one computed test of the run
+--   letter-bit                  of the n-th 64 bytes those are in the letter set whose bit of m is set, by one computed test of the 64
 --   value-digit, value-capital, value-small, value-le   what a letter or digit is read as
-use Prim.Native.Nat.{ℕ, _+_, _-_, _≤_, _<_}
+use Prim.Native.Nat.{ℕ, _+_, _-_, _*_, _/_, _%_, _^_, _≤_, _<_}
+use native.Mathlib.Nat.{div-add-mod', mod-lt}
 use native.Mathlib.Omega.{arith}
 use mathlib.Core.Bool.{Bool, true, false, _||_, Bool·beq}
-use mathlib.Core.Logic.{_⊎_, inl, inr}
 use mathlib.Core.List.{[], _∷_}
-use mathlib.Core.Path.{_≡_, refl, sym}
+use mathlib.Core.Path.{_≡_, refl, sym, subst}
 use lib.Dec.{T, eqb, leb}
 use lib.ListN.{length, getD}
 use borrow.Author.Tests.{leb-true, ne-eqb}
-use Rattle.laws.specs.Bytes.{Bytes, between, all, has}
+use Rattle.laws.specs.Bytes.{Bytes, between, all}
 use Rattle.laws.proofs.Tests.{and-l, and-r, and-both, T-true, true-T, bool-cases}
 use Rattle.laws.proofs.Loops.{all-at}
-use Rattle.laws.proofs.Below.{every, within}
+use Rattle.laws.proofs.Below.{every, below, within}
 use Rattle.marks.specs.Marks.{digit, capital, letterOrDigit, letter, mark, fits, letterValue}
 
 -- ─── of every byte ───
@@ -55,10 +55,6 @@ module _ (m q : ℕ → Bool) (f : (p c : ℕ) → T (m p) → T (mark p c) → 
 
 -- ─── the letter set ───
 
--- space, `:` and `?` are no part of a longer run in the letter set
-abbrev lone : ℕ → Bool
-lone c = has (32 ∷ 58 ∷ 63 ∷ []) c
-
 beq-eq : (a b : Bool) → T (Bool·beq a b) → a ≡ b
 beq-eq true true t = refl
 beq-eq true false t = absurd t
@@ -68,15 +64,17 @@ beq-eq false false t = refl
 pub or-rest : (a b : Bool) → a ≡ false → T (a || b) → T b
 or-rest a b e t = rw e at t
 
-module _ (a n c : ℕ) (l : a ≤ c) (h : c < a + n) where
-  pub letter-within : T (every n (λ k. letter (a + k))) → true ≡ letter c
-  letter-within t = sym (T-true (letter c) (within a n letter t c l h))
+pub letter-within : (a n c : ℕ) → a ≤ c → c < a + n → T (every n (λ k. letter (a + k))) → true ≡ letter c
+letter-within a n c l h t = sym (T-true (letter c) (within a n letter t c l h))
 
-  pub letter-other : T (every n (λ k. lone (a + k) || Bool·beq (letterOrDigit (a + k)) (letter (a + k)))) → ((c ≡ 32) ⊎ ((c ≡ 58) ⊎ (c ≡ 63)) → ⊥) → letterOrDigit c ≡ letter c
-  letter-other t d =
-      let e : lone c ≡ false = rw (ne-eqb c 32 (λ e. d (inl e)), ne-eqb c 58 (λ e. d (inr (inl e))), ne-eqb c 63 (λ e. d (inr (inr e)))) in
-      beq-eq (letterOrDigit c) (letter c)
-      (or-rest (lone c) (Bool·beq (letterOrDigit c) (letter c)) e (within a n (λ k. lone k || Bool·beq (letterOrDigit k) (letter k)) t c l h))
+-- the bit k of m
+abbrev bit : ℕ → ℕ → Bool
+bit m k = eqb (m / 2 ^ k % 2) 1
+
+pub letter-bit : (n m c : ℕ) → c / 64 ≡ n → T (every 64 (λ k. Bool·beq (bit m k) (letter (n * 64 + k)))) → bit m (c % 64) ≡ letter c
+letter-bit n m c e t =
+    let d : n * 64 + c % 64 ≡ c = omega (arith, div-add-mod' c 64) in
+    subst (λ (x : ℕ). bit m (c % 64) ≡ letter x) d (beq-eq _ _ (below 64 (λ k. Bool·beq (bit m k) (letter (n * 64 + k))) t (c % 64) (mod-lt c (omega arith))))
 
 -- ─── what a letter or digit is read as ───
 

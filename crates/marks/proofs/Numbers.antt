@@ -79,10 +79,10 @@ spelled-mod m x y [] e = e
 spelled-mod m x y (c ∷ s) e =
     rw (spelled-cons x c s, spelled-cons y c s) (spelled-mod m (x * shift c + letterValue c) (y * shift c + letterValue c) s (mod-same m (shift c) (letterValue c) x y e))
 
-module _ (m v : ℕ) (s : Bytes) (i : ℕ) where
-  pub remainder-go : i < length s → (let c = getD s i 0 in spelledFrom v (drop i s) % m ≡ spelledFrom ((v * shift c + letterValue c) % m) (drop (i + 1) s) % m)
-  remainder-go h = rw (drop-step s i h, spelled-cons v (getD s i 0) (drop (i + 1) s))
-      (spelled-mod m _ _ (drop (i + 1) s) (sym (mod-mod (v * shift (getD s i 0) + letterValue (getD s i 0)) m)))
+pub remainder-go :
+    (m v w : ℕ) (s : Bytes) (i : ℕ) → i < length s →
+    (let c = getD s i 0 in w % m ≡ (v * shift c + letterValue c) % m) → spelledFrom v (drop i s) % m ≡ spelledFrom w (drop (i + 1) s) % m
+remainder-go m v w s i h e = rw (drop-step s i h, spelled-cons v (getD s i 0) (drop (i + 1) s)) (spelled-mod m _ w (drop (i + 1) s) (sym e))
 
 pub remainder-end : (v : ℕ) (s : Bytes) (i : ℕ) → length s ≤ i → spelledFrom v (drop i s) ≡ v
 remainder-end v s i h = rw (drop-of-length-le s h)

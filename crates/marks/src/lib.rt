@@ -56,10 +56,14 @@ pub fn is_letter_or_digit(c: u8) -> bool
 pub fn is_letter(c: u8) -> bool
     ensures { λ r. ⌜ r ≡ letter c ⌝ }
 {
-    match c {
-        b'/' | b'-' | b'?' | b':' | b'(' | b')' | b'.' | b',' | b'\'' | b'+' | b' ' => true,
-        _ => is_letter_or_digit(c),
-    }
+    // The bit k of the n-th number is set where the byte 64 * n + k is of the set. An arm for each n but the last makes the match a table.
+    let set: u64 = match c / 64 {
+        0 => 0x87fffb8100000000,
+        1 => 0x07fffffe07fffffe,
+        2 => 0,
+        _ => 0,
+    };
+    (set >> (c % 64)) % 2 == 1
 }
 
 // ─── runs of a class ───
@@ -240,11 +244,15 @@ pub fn remainder(left: u64, text: &[u8]) -> u64
         let c = text[i];
         let n = letter_number(c);
         if is_digit(c) {
-            v = (v * 10 + n) % 97;
+            v = v * 10 + n;
         } else {
-            v = (v * 100 + n) % 97;
+            v = v * 100 + n;
+        }
+        // Divided only where two digits more might not fit.
+        if 10000000000000000 < v {
+            v = v % 97;
         }
         i += 1;
     }
-    v
+    v % 97
 }

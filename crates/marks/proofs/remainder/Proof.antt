@@ -1,6 +1,6 @@
--- `marks::remainder` meets its contract. The invariant: v is a remainder, and with the text from i on it leaves what `left` leaves with the whole.
-use Prim.Native.Nat.{_+_, _-_, _*_, _<_, _%_}
-use native.Mathlib.Nat.{mod-lt, mod-eq-of-lt}
+-- `marks::remainder` meets its contract. The invariant: v has room for one letter or digit more, and with the text from i on it leaves what `left` leaves with the whole.
+use Prim.Native.Nat.{_+_, _-_, _*_, _^_, _≤_, _<_, _%_}
+use native.Mathlib.Nat.{mod-lt, mod-mod}
 use native.Mathlib.Omega.{arith}
 use mathlib.Core.Logic.{inl, inr}
 use mathlib.Core.Path.{_≡_, refl, sym, _∙_}
@@ -13,7 +13,7 @@ use Rattle.marks.proofs.remainder.Statement.{statement}
 use Rattle.marks.proofs.remainder.Tie as tie
 
 abbrev Inv-loop : tie.InvT-loop
-Inv-loop left text v₀ i₀ v i = (v < 97) × (spelledFrom left text % 97 ≡ spelledFrom v (drop i text) % 97)
+Inv-loop left text v₀ i₀ v i = (v ≤ 10 ^ 16) × (spelledFrom left text % 97 ≡ spelledFrom v (drop i text) % 97)
 
 abbrev μ-loop : tie.MeasureT-loop
 μ-loop left text v₀ i₀ v i = length text - i
@@ -27,11 +27,19 @@ value-fits c =
 -- what v is after the branch
 next :
     (c : tie.Joined1 Inv-loop μ-loop) →
-    (let l = c .before .before .before .before .before .loop in let x = getD (c .before .before .before .before .before .before .before .args .text .now) (l .i) 0 in c .if1 .v ≡ (l .v * shift x + letterValue x) % 97)
+    (let l = c .before .before .before .before .before .loop in let x = getD (c .before .before .before .before .before .before .before .args .text .now) (l .i) 0 in c .if1 .v ≡ l .v * shift x + letterValue x)
 next c =
     elim (c .if1 .came) [
       | inl w ↦ w .1 ∙ rw (c .before .before .letter-number .ensures, shift-digit _ (sym (c .before .is-digit .ensures) ∙ w .0 .taken))
       | inr w ↦ w .1 ∙ rw (c .before .before .letter-number .ensures, shift-letter _ (sym (c .before .is-digit .ensures) ∙ w .0 .left))
+    ]
+
+-- what is left of it where it is divided
+kept : (c : tie.Joined2 Inv-loop μ-loop) → (c .if2 .v ≤ 10 ^ 16) × (c .if2 .v % 97 ≡ c .before .if1 .v % 97)
+kept c =
+    elim (c .if2 .came) [
+      | inl w ↦ rw (w .2) (omega (arith, mod-lt (c .before .if1 .v) {m = 97} (omega arith)), mod-mod (c .before .if1 .v) 97)
+      | inr w ↦ rw (w .1) (w .0 .left, refl)
     ]
 
 loop-holds : tie.Need-loop-holds Inv-loop μ-loop
@@ -68,13 +76,13 @@ loop-less c = search needs
 
 loop-again : tie.Need-loop-again Inv-loop μ-loop
 loop-again c =
-    let l = c .before .before .before .before .before .loop in
-    rw (next c) (mod-lt _ (omega arith), l .inv .1 ∙ remainder-go 97 (l .v) _ (l .i) (c .before .before .before .before .loop-test .taken))
+    let l = c .before .before .before .before .before .before .loop in
+    (kept c .0, l .inv .1 ∙ remainder-go 97 (l .v) (c .if2 .v) _ (l .i) (c .before .before .before .before .before .loop-test .taken) (kept c .1 ∙ rw (next (c .before))))
 
 returns : tie.Need-returns Inv-loop μ-loop
 returns c =
     let l = c .before .loop in
-    sym (l .inv .1 ∙ rw (remainder-end (l .v) _ (l .i) (c .loop-test .left)) (mod-eq-of-lt (l .inv .0)))
+    sym (l .inv .1 ∙ rw (remainder-end (l .v) _ (l .i) (c .loop-test .left)))
 
 pub remainder-spec : {M : Type 1} → statement M
 remainder-spec =
