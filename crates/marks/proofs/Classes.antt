@@ -1,32 +1,42 @@
 -- WHAT A CLASS SAYS OF A BYTE, and each class by cases.
 --   class-at                    where every byte is of a class, the one at i is
+--   all-and-go, all-and-end     a loop that goes through every byte: at the index i it takes one more, or is at the end
 --   between-low, between-high   a byte from a to b is at least a, at most b
 --   small-low                   a letter or digit that is neither digit nor capital is small
 --   mark-other                  a mark that is none of D, A and N stands for itself
 --   fits-all                    a text is of a class where each mark of its pattern is of a class whose marks stand for such bytes
 --   or-rest                     of two tests of which one holds, the second holds where the first fails
 --   letter-within               a byte of a run is in the letter set, by one computed test of the run
---   letter-bit                  of the n-th 64 bytes those are in the letter set whose bit of m is set, by one computed test of the 64
+--   lettered, letter-ranges     the letter set as ranges and single bytes, by one computed test of every byte
 --   value-digit, value-capital, value-small, value-le   what a letter or digit is read as
-use Prim.Native.Nat.{ℕ, _+_, _-_, _*_, _/_, _%_, _^_, _≤_, _<_}
-use native.Mathlib.Nat.{div-add-mod', mod-lt}
+use Prim.Native.Nat.{ℕ, _+_, _-_, _≤_, _<_}
 use native.Mathlib.Omega.{arith}
-use mathlib.Core.Bool.{Bool, true, false, _||_, Bool·beq}
+use mathlib.Core.Bool.{Bool, true, false, not, _&&_, _||_, Bool·beq}
 use mathlib.Core.List.{[], _∷_}
-use mathlib.Core.Path.{_≡_, refl, sym, subst}
+use mathlib.Core.Path.{_≡_, refl, sym}
 use lib.Dec.{T, eqb, leb}
-use lib.ListN.{length, getD}
+use lib.ListN.{length, drop, getD}
 use borrow.Author.Tests.{leb-true, ne-eqb}
 use Rattle.laws.specs.Bytes.{Bytes, between, all}
 use Rattle.laws.proofs.Tests.{and-l, and-r, and-both, T-true, true-T, bool-cases}
-use Rattle.laws.proofs.Loops.{all-at}
+use Rattle.laws.proofs.Loops.{drop-step, all-end, all-at}
 use Rattle.laws.proofs.Below.{every, below, within}
-use Rattle.marks.specs.Marks.{digit, capital, letterOrDigit, letter, mark, fits, letterValue}
+use Rattle.marks.specs.Marks.{digit, capital, small, letterOrDigit, letter, mark, fits, letterValue}
 
 -- ─── of every byte ───
 
 pub class-at : (p : ℕ → Bool) (s : Bytes) (i : ℕ) → all p s ≡ true → i < length s → p (getD s i 0) ≡ true
 class-at p s i e h = T-true (p (getD s i 0)) (all-at p s i (true-T (all p s) e) h)
+
+-- a loop that goes through every byte, b telling of those before i
+module _ (p : ℕ → Bool) (s : Bytes) (i : ℕ) where
+  pub all-and-go : i < length s → (b : Bool) → b && all p (drop i s) ≡ (b && p (getD s i 0)) && all p (drop (i + 1) s)
+  all-and-go h true = rw (drop-step s i h)
+  all-and-go h false = refl
+
+  pub all-and-end : length s ≤ i → (b : Bool) → b && all p (drop i s) ≡ b
+  all-and-end h true = all-end p s i h
+  all-and-end h false = refl
 
 -- ─── from a to b ───
 
@@ -67,14 +77,12 @@ or-rest a b e t = rw e at t
 pub letter-within : (a n c : ℕ) → a ≤ c → c < a + n → T (every n (λ k. letter (a + k))) → true ≡ letter c
 letter-within a n c l h t = sym (T-true (letter c) (within a n letter t c l h))
 
--- the bit k of m
-abbrev bit : ℕ → ℕ → Bool
-bit m k = eqb (m / 2 ^ k % 2) 1
+-- as ranges and single bytes: ' to : but for *, space and ?
+abbrev pub lettered : ℕ → Bool
+lettered c = ((capital c || small c) || (between 39 58 c && not (eqb c 42))) || (eqb c 32 || eqb c 63)
 
-pub letter-bit : (n m c : ℕ) → c / 64 ≡ n → T (every 64 (λ k. Bool·beq (bit m k) (letter (n * 64 + k)))) → bit m (c % 64) ≡ letter c
-letter-bit n m c e t =
-    let d : n * 64 + c % 64 ≡ c = omega (arith, div-add-mod' c 64) in
-    subst (λ (x : ℕ). bit m (c % 64) ≡ letter x) d (beq-eq _ _ (below 64 (λ k. Bool·beq (bit m k) (letter (n * 64 + k))) t (c % 64) (mod-lt c (omega arith))))
+pub letter-ranges : (c : ℕ) → c < 256 → lettered c ≡ letter c
+letter-ranges c h = beq-eq (lettered c) (letter c) (below 256 (λ k. Bool·beq (lettered k) (letter k)) tt c h)
 
 -- ─── what a letter or digit is read as ───
 

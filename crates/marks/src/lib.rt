@@ -56,14 +56,10 @@ pub fn is_letter_or_digit(c: u8) -> bool
 pub fn is_letter(c: u8) -> bool
     ensures { λ r. ⌜ r ≡ letter c ⌝ }
 {
-    // The bit k of the n-th number is set where the byte 64 * n + k is of the set. An arm for each n but the last makes the match a table.
-    let set: u64 = match c / 64 {
-        0 => 0x87fffb8100000000,
-        1 => 0x07fffffe07fffffe,
-        2 => 0,
-        _ => 0,
-    };
-    (set >> (c % 64)) % 2 == 1
+    // From ' to : all but *. No branch, so that a loop over it takes many bytes at once.
+    let low = is_between(b'\'', b':', c) & (c != b'*');
+    let alone = (c == b' ') | (c == b'?');
+    is_capital(c) | is_between(b'a', b'z', c) | low | alone
 }
 
 // ─── runs of a class ───
@@ -72,14 +68,13 @@ pub fn is_letter(c: u8) -> bool
 pub fn all_letters(text: &[u8]) -> bool
     ensures { λ r. ⌜ r ≡ all letter (now (text .entry)) ⌝ }
 {
+    let mut good = true;
     let mut i = 0;
     while i < text.len() {
-        if !is_letter(text[i]) {
-            return false;
-        }
+        good = good & is_letter(text[i]);
         i += 1;
     }
-    true
+    good
 }
 
 // Every byte is a letter or digit.

@@ -1,20 +1,20 @@
--- `marks::all_letters` meets its contract. The invariant: every byte of the text is of the class where every byte from i on is.
+-- `marks::all_letters` meets its contract. The invariant: every byte of the text is of the class where `good` holds and every byte from i on is.
 use Prim.Native.Nat.{_-_}
+use mathlib.Core.Bool.{_&&_}
 use mathlib.Core.Path.{_≡_, refl, sym, _∙_}
 use lib.ListN.{length, drop}
 use borrow.Author.Needs.{needs}
-use borrow.Author.Tests.{not-true, not-false}
 use Rattle.laws.specs.Bytes.{all}
-use Rattle.laws.proofs.Loops.{all-stop, all-go, all-end}
 use Rattle.marks.specs.Marks.{letter}
+use Rattle.marks.proofs.Classes.{all-and-go, all-and-end}
 use Rattle.marks.proofs.all_letters.Statement.{statement}
 use Rattle.marks.proofs.all_letters.Tie as tie
 
 abbrev Inv-loop : tie.InvT-loop
-Inv-loop text i₀ i = all letter text ≡ all letter (drop i text)
+Inv-loop text good₀ i₀ good i = all letter text ≡ good && all letter (drop i text)
 
 abbrev μ-loop : tie.MeasureT-loop
-μ-loop text i₀ i = length text - i
+μ-loop text good₀ i₀ good i = length text - i
 
 loop-holds : tie.Need-loop-holds Inv-loop μ-loop
 loop-holds c = refl
@@ -25,11 +25,6 @@ shared-slice-read-is-letter c = search needs
 is-letter-requires : tie.Need-is-letter-requires Inv-loop μ-loop
 is-letter-requires c κs = search needs
 
-returns : tie.Need-returns Inv-loop μ-loop
-returns c =
-    let l = c .before .before .before .before .loop in
-    sym (l .inv ∙ all-stop letter _ (l .i) (c .before .before .before .loop-test .taken) (sym (c .before .is-letter .ensures) ∙ not-true _ (c .if1 .taken)))
-
 add-i : tie.Need-add-i Inv-loop μ-loop
 add-i c = search needs
 
@@ -38,11 +33,11 @@ loop-less c = search needs
 
 loop-again : tie.Need-loop-again Inv-loop μ-loop
 loop-again c =
-    let l = c .before .before .before .before .loop in
-    l .inv ∙ all-go letter _ (l .i) (c .before .before .before .loop-test .taken) (sym (c .before .is-letter .ensures) ∙ not-false _ (c .if1 .left))
+    let l = c .before .before .before .loop in
+    rw (c .is-letter .ensures) (l .inv ∙ all-and-go letter _ (l .i) (c .before .before .loop-test .taken) (l .good))
 
-returns-2 : tie.Need-returns-2 Inv-loop μ-loop
-returns-2 c = sym (c .before .loop .inv ∙ all-end letter _ _ (c .loop-test .left))
+returns : tie.Need-returns Inv-loop μ-loop
+returns c = let l = c .before .loop in sym (l .inv ∙ all-and-end letter _ (l .i) (c .loop-test .left) (l .good))
 
 pub all-letters-spec : {M : Type 1} → statement M
 all-letters-spec =
@@ -53,8 +48,7 @@ all-letters-spec =
     loop-holds
     shared-slice-read-is-letter
     is-letter-requires
-    returns
     add-i
     loop-less
     loop-again
-    returns-2)
+    returns)

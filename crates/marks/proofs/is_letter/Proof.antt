@@ -1,26 +1,22 @@
--- `marks::is_letter` meets its contract. Each of the four numbers has the letter set's bits for its 64 bytes: each bit is tried.
-use mathlib.Core.Logic.{inl, inr}
+-- `marks::is_letter` meets its contract. The ranges and single bytes are the letter set: each byte is tried.
 use native.Mathlib.Omega.{arith}
 use borrow.Author.Needs.{needs}
-use Rattle.marks.proofs.Classes.{letter-bit}
+use Rattle.marks.proofs.Classes.{letter-ranges}
 use Rattle.marks.proofs.is_letter.Statement.{statement}
 use Rattle.marks.proofs.is_letter.Tie as tie
 
-cast-result : tie.Need-cast-result
-cast-result c = search needs
+is-between-requires : tie.Need-is-between-requires
+is-between-requires c κs = search needs
 
-shr-result : tie.Need-shr-result
-shr-result c = search needs
+is-capital-requires : tie.Need-is-capital-requires
+is-capital-requires c κs = search needs
+
+is-between-requires-2 : tie.Need-is-between-requires-2
+is-between-requires-2 c κs = search needs
 
 returns : tie.Need-returns
-returns c =
-    let x = c .before .before .args .c in
-    elim (c .before .match .came) [
-      | inl w ↦ rw (w .1) (letter-bit 0 _ x (w .0 .keys1) tt)
-      | inr (inl w) ↦ rw (w .1) (letter-bit 1 _ x (w .0 .keys2) tt)
-      | inr (inr (inl w)) ↦ rw (w .1) (letter-bit 2 _ x (w .0 .keys3) tt)
-      | inr (inr (inr w)) ↦ rw (w .1) (letter-bit 3 _ x (omega arith) tt)
-    ]
+returns c = rw (c .before .before .is-between .ensures, c .before .is-capital .ensures, c .is-between2 .ensures) (letter-ranges (c .before .before .before .args .c) (omega arith))
 
 pub is-letter-spec : {M : Type 1} → statement M
-is-letter-spec = tie.close (tie.spec cast-result shr-result returns)
+is-letter-spec =
+    tie.close (tie.spec is-between-requires is-capital-requires is-between-requires-2 returns)
