@@ -7,11 +7,12 @@
 --   told-fits, told-within        what the step asks of an event, and what it keeps
 --   rows-batch, rows-transaction, rows-other   what an event leaves in the tables, by its part
 --   carried, told-step            what is carried behind an event
+--   said-no, said-within, said-carried, unsaid   an event whose text was said in the kept row, or not
 use Prim.Native.Nat.{ℕ, _+_, _*_, _-_, _≤_, _<_}
 use native.Mathlib.Omega.{arith}
 use mathlib.Core.Bool.{Bool, true, false}
 use mathlib.Core.List.{List, [], _∷_, _++_}
-use mathlib.Core.Path.{_≡_, refl, ap, sym, _∙_}
+use mathlib.Core.Path.{_≡_, refl, ap, sym, subst, _∙_}
 use borrow.Author.Tests.{ne-eqb, eq-eqb, le-leb, lt-leb}
 use lib.ListN.{length, take, drop}
 use Rattle.laws.specs.Bytes.{Bytes}
@@ -35,6 +36,8 @@ use Rattle.state.specs.declared.State.{State}
 use Rattle.state.specs.State.{pick, settled, adding, step}
 use Rattle.state.specs.Fill.{slipNumbers, countNumbers, sumNumbers, rowNumbers, putIf, putSlip, Carried, filledSlips, filledRows, carryStep, stepOf, Within, Sane, Fit}
 use Rattle.state.proofs.Steps.{close-some}
+use Rattle.state.proofs.Bounds.{within-step}
+use Rattle.kept.specs.Kept.{stateOf, Said}
 use Rattle.fill.specs.declared.Declared.{Declared}
 use Rattle.fill.proofs.Sane.{told-sane}
 
@@ -116,6 +119,28 @@ module _ (st : State) (t : Told) (slips rows : List ℕ) where
   pub carried : (r : State) (xs ys : List ℕ) → r ≡ step st t → xs ≡ carryStep entry t .slips → ys ≡ carryStep entry t .rows
       → carryStep entry t ≡ record { state = r; slips = xs; rows = ys }
   carried r xs ys g x y = rw (g, x, y) refl
+
+-- an event whose text was said in the kept row, or not
+module _ (t : Told) (ns ms : List ℕ) (z : Bool) (y : Said z ns ms t) where
+  said-yes : z ≡ true → Said true ns ms t
+  said-yes e = subst (λ (b : Bool). Said b ns ms t) e y
+
+  pub said-no : z ≡ false → ms ≡ ns
+  said-no e = subst (λ (b : Bool). Said b ns ms t) e y
+
+  pub said-within : z ≡ true → (t .place < t .start) × (Within (t .place) (stateOf ns) × Sane t) → Within (t .start) (stateOf ms)
+  said-within e h = within-step (t .place) (t .start) (stateOf ns) t (h .1 .0) (h .0) (h .1 .1) (stateOf ms) (said-yes e .1 .1)
+
+  pub said-carried : (slips rows : List ℕ) → z ≡ true
+      → carryStep (record { state = stateOf ns; slips = slips; rows = rows }) t ≡ record { state = stateOf ms; slips = slips; rows = rows }
+  said-carried slips rows e =
+      let x = said-yes e in
+      let k = rows-other (stateOf ns) t slips rows (x .0) (x .1 .0) in
+      carried (stateOf ns) t slips rows (stateOf ms) slips rows (x .1 .1) (k .0) (k .1)
+
+  pub unsaid : (slips rows : List ℕ) (d : Carried) → z ≡ false → carryStep (record { state = stateOf ms; slips = slips; rows = rows }) t ≡ d
+      → carryStep (record { state = stateOf ns; slips = slips; rows = rows }) t ≡ d
+  unsaid slips rows d e g = subst (λ (l : List ℕ). carryStep (record { state = stateOf l; slips = slips; rows = rows }) t ≡ d) (said-no e) g
 
 module _ (s : Bytes) (e : Event) (t : Told) (f : t ≡ told s e) where
   pub told-fits : (st : State) → (length s ≤ mostBytes) × (e .start + e .length ≤ length s) × (e .place < e .start) × Within (e .place) st × Fit e

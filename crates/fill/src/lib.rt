@@ -187,7 +187,7 @@ fn take_step(kept: &mut [u64], slips: &mut [u64], rows: &mut [u64], t: Told)
     kept::keep(state.step(t), kept);
 }
 
-// The step at an event of the message.
+// The step at an event of the message. Most events change few of the kept numbers or none, and no row.
 pub fn on_event(kept: &mut [u64], message: &[u8], slips: &mut [u64], rows: &mut [u64], event: Event)
     requires { ⌜ (length (now kept) ≡ keptLength) × (length (now message) ≤ mostBytes) × (event .start + event .length ≤ length (now message)) × (event .place < event .start) × Within (event .place) (stateOf (now kept)) × Fit event ⌝ }
     ensures within { λ _. ⌜ Within (event .start) (stateOf (now (kept .exit))) ⌝ }
@@ -195,6 +195,9 @@ pub fn on_event(kept: &mut [u64], message: &[u8], slips: &mut [u64], rows: &mut 
         ≡ record { state = stateOf (now (kept .exit)); slips = now (slips .exit); rows = now (rows .exit) } ⌝ }
 {
     let t = message::tell(message, event);
+    if kept::say(kept, t) {
+        return;
+    }
     take_step(kept, slips, rows, t);
 }
 

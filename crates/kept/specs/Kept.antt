@@ -1,9 +1,12 @@
 -- THE STATE IN A ROW OF NUMBERS, as it is kept between two events. To be believed of nothing but the code: a row that is lent holds the state that `stateOf` reads in it.
 --   keptLength      how many numbers they are
 --   stateOf ns      the state that they tell; headerOf, tallyOf, slipOf its parts
+--   Said b ns ms t  what the event t says is said in full, or nothing is changed
 --   badOf, overOf, countOf, sumOf, faultOf, openOf   a case in two numbers: a mark, 0 for the case that holds nothing, and the number that the case holds
 use Prim.Native.Nat.{ℕ}
+use mathlib.Core.Bool.{Bool, true, false}
 use mathlib.Core.List.{List, [], _∷_}
+use mathlib.Core.Path.{_≡_}
 use lib.ListN.{getD}
 use Rattle.profile.specs.declared.DeclaredCount.{DeclaredCount}
 use Rattle.profile.specs.declared.DeclaredCount.the-variants.{Count, Absent as NoCount}
@@ -22,7 +25,9 @@ use Rattle.profile.specs.declared.Tally.{Tally}
 use Rattle.state.specs.declared.Header.{Header}
 use Rattle.state.specs.declared.Slip.{Slip}
 use Rattle.state.specs.declared.State.{State}
-use Rattle.state.specs.State.{closeIf}
+use Rattle.tree.specs.Parts as part
+use Rattle.message.specs.declared.Told.{Told}
+use Rattle.state.specs.State.{closeIf, step}
 
 -- ─── a case in two numbers ───
 
@@ -93,3 +98,10 @@ stateOf ns = record {
   «open» = openOf (getD ns 29 0) (getD ns 30 0);
   slip = slipOf ns;
 }
+
+-- ─── what a text says ───
+
+-- of the row at entry and at exit: said in full, where the event begins neither a batch nor a transaction; or nothing is changed
+abbrev pub Said : Bool → List ℕ → List ℕ → Told → Type 0
+Said true ns ms t = (t .part ≡ part.batch → ⊥) × ((t .part ≡ part.transaction → ⊥) × (stateOf ms ≡ step (stateOf ns) t))
+Said false ns ms t = ms ≡ ns
