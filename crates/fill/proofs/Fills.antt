@@ -38,7 +38,7 @@ use Rattle.state.specs.Fill.{slipNumbers, countNumbers, sumNumbers, rowNumbers,
 use Rattle.state.proofs.Steps.{close-some}
 use Rattle.state.proofs.Bounds.{within-step}
 use Rattle.kept.specs.Kept.{stateOf, Said}
-use Rattle.fill.specs.declared.Declared.{Declared}
+use Rattle.kept.specs.declared.Marked.{Marked}
 use Rattle.fill.proofs.Sane.{told-sane}
 
 -- ─── one row ───
@@ -72,7 +72,7 @@ slip-small st c e w = go (st .«open») e (w .counted)
     go Nothing e h = h
     go (OpenCents d) e h = omega arith
 
-pub row-said : (m : ℕ) (b : Batch) (u v : ℕ) (x y : Declared) → x .mark ∷ x .value ∷ [] ≡ countNumbers (b .«declared_count») → y .mark ∷ y .value ∷ [] ≡ sumNumbers (b .«declared_sum»)
+pub row-said : (m : ℕ) (b : Batch) (u v : ℕ) (x y : Marked) → x .mark ∷ x .value ∷ [] ≡ countNumbers (b .«declared_count») → y .mark ∷ y .value ∷ [] ≡ sumNumbers (b .«declared_sum»)
     → m ∷ b .count .0 ∷ b .sum .0 ∷ x .mark ∷ x .value ∷ y .mark ∷ y .value ∷ (4 * u + v) ∷ [] ≡ rowNumbers m b u v
 row-said m b u v x y e f = rw (← e, ← f) refl
 

@@ -1,17 +1,15 @@
 // The tables: a transaction's slip and a batch's row, put into the lent tables when they are complete, and the step that the reader takes at an event.
 ghost use mathlib.Core.Path.{_≡_};
-ghost use mathlib.Core.List.{[], _∷_};
+ghost use mathlib.Core.List.{[]};
 ghost use Prim.Native.Nat.{_+_, _*_, _≤_, _<_};
 ghost use lib.ListN.{length};
 ghost use Rattle.profile.specs.Limits.{mostBytes};
 ghost use Rattle.tree.specs.declared.Event.{Event};
-ghost use Rattle.state.specs.Fill.{countNumbers, sumNumbers, slipNumbers, rowNumbers, putIf, filledSlips, filledRows, carryStep, stepOf, Carried, Within, Sane, Fit};
+ghost use Rattle.state.specs.Fill.{slipNumbers, rowNumbers, putIf, filledSlips, filledRows, carryStep, stepOf, Carried, Within, Sane, Fit};
 ghost use Rattle.kept.specs.Kept.{keptLength, stateOf};
 use message::Told;
 use profile::Batch;
 use profile::ControlSum;
-use profile::DeclaredCount;
-use profile::DeclaredSum;
 use state::Open;
 use state::Part;
 use state::Slip;
@@ -73,36 +71,6 @@ pub fn put_slip(state: State, slips: &mut [u64])
 
 // ─── a batch's row ───
 
-// A declaration in a row: 1 or 0 for it, and what it tells or 0.
-pub struct Declared {
-    pub mark: u64,
-    pub value: u64,
-}
-
-fn count_numbers(d: DeclaredCount) -> Declared
-    ensures { λ r. ⌜ r .mark ∷ r .value ∷ [] ≡ countNumbers d ⌝ }
-{
-    match d {
-        DeclaredCount::Absent => Declared { mark: 0, value: 0 },
-        DeclaredCount::Count(n) => Declared {
-            mark: 1,
-            value: n.0,
-        },
-    }
-}
-
-fn sum_numbers(d: DeclaredSum) -> Declared
-    ensures { λ r. ⌜ r .mark ∷ r .value ∷ [] ≡ sumNumbers d ⌝ }
-{
-    match d {
-        DeclaredSum::Absent => Declared { mark: 0, value: 0 },
-        DeclaredSum::Cents(c) => Declared {
-            mark: 1,
-            value: c.0,
-        },
-    }
-}
-
 // Fills the row of the batch `b`, with `before` transactions before it: the whole of the part that it is lent.
 fn fill_row(row: &mut [u64], before: u64, b: Batch, scheme: u64, sequence: u64)
     requires { ⌜ (length (now row) ≡ 8) × (scheme ≤ 3) × (sequence ≤ 3) ⌝ }
@@ -110,8 +78,8 @@ fn fill_row(row: &mut [u64], before: u64, b: Batch, scheme: u64, sequence: u64)
 {
     let declared_count = b.declared_count;
     let declared_sum = b.declared_sum;
-    let x = count_numbers(declared_count);
-    let y = sum_numbers(declared_sum);
+    let x = kept::count_numbers(declared_count);
+    let y = kept::sum_numbers(declared_sum);
     row[0] = before;
     row[1] = b.count.0;
     row[2] = b.sum.0;

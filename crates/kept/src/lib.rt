@@ -3,7 +3,9 @@ ghost use mathlib.Core.Path.{_≡_};
 ghost use Prim.Native.Nat.{ℕ};
 ghost use lib.ListN.{length};
 ghost use Rattle.state.specs.declared.FirstBad.the-variants.{At};
+ghost use mathlib.Core.List.{[], _∷_};
 ghost use Rattle.state.specs.State.{fresh};
+ghost use Rattle.state.specs.Fill.{countNumbers, sumNumbers};
 ghost use Rattle.kept.specs.Kept.{keptLength, headerOf, tallyOf, slipOf, stateOf, badOf, overOf, countOf, sumOf, faultOf, openOf, Said};
 ghost use Rattle.text.specs.declared.Judged.the-variants.{Good};
 use message::Told;
@@ -228,8 +230,9 @@ fn over_numbers(over: Over) -> Marked
     }
 }
 
-fn count_numbers(declared: DeclaredCount) -> Marked
-    ensures { λ r. ⌜ countOf (r .mark) (r .value) ≡ declared ⌝ }
+pub fn count_numbers(declared: DeclaredCount) -> Marked
+    ensures kept { λ r. ⌜ countOf (r .mark) (r .value) ≡ declared ⌝ }
+    ensures told { λ r. ⌜ r .mark ∷ r .value ∷ [] ≡ countNumbers declared ⌝ }
 {
     match declared {
         DeclaredCount::Absent => Marked { mark: 0, value: 0 },
@@ -240,8 +243,9 @@ fn count_numbers(declared: DeclaredCount) -> Marked
     }
 }
 
-fn sum_numbers(declared: DeclaredSum) -> Marked
-    ensures { λ r. ⌜ sumOf (r .mark) (r .value) ≡ declared ⌝ }
+pub fn sum_numbers(declared: DeclaredSum) -> Marked
+    ensures kept { λ r. ⌜ sumOf (r .mark) (r .value) ≡ declared ⌝ }
+    ensures told { λ r. ⌜ r .mark ∷ r .value ∷ [] ≡ sumNumbers declared ⌝ }
 {
     match declared {
         DeclaredSum::Absent => Marked { mark: 0, value: 0 },

@@ -50,7 +50,7 @@ same-length : tie.Need-same-length
 same-length c = simp length-set
 
 returns : tie.Need-returns
-returns c = row-of-sets (c .before .before .before .args .before ∷ c .before .before .before .args .b .count .0 ∷ c .before .before .before .args .b .sum .0 ∷ c .before .count-numbers .result .mark ∷ c .before .count-numbers .result .value ∷ c .sum-numbers .result .mark ∷ c .sum-numbers .result .value ∷ (4 * c .before .before .before .args .scheme + c .before .before .before .args .sequence) ∷ []) (c .before .before .before .args .row .now) (c .before .before .before .pre .0) ∙ row-said (c .before .before .before .args .before) (c .before .before .before .args .b) (c .before .before .before .args .scheme) (c .before .before .before .args .sequence) _ _ (c .before .count-numbers .ensures) (c .sum-numbers .ensures)
+returns c = row-of-sets (c .before .before .before .args .before ∷ c .before .before .before .args .b .count .0 ∷ c .before .before .before .args .b .sum .0 ∷ c .before .count-numbers .result .mark ∷ c .before .count-numbers .result .value ∷ c .sum-numbers .result .mark ∷ c .sum-numbers .result .value ∷ (4 * c .before .before .before .args .scheme + c .before .before .before .args .sequence) ∷ []) (c .before .before .before .args .row .now) (c .before .before .before .pre .0) ∙ row-said (c .before .before .before .args .before) (c .before .before .before .args .b) (c .before .before .before .args .scheme) (c .before .before .before .args .sequence) _ _ (c .before .count-numbers .ensures .1) (c .sum-numbers .ensures .1)
 
 pub fill-row-spec : {M : Type 1} → statement M
 fill-row-spec =

@@ -32,7 +32,7 @@ open-numbers-requires : tie.Need-open-numbers-requires
 open-numbers-requires c κs = search needs
 
 returns : tie.Need-returns
-returns c = numbers-told (c .before .before .before .before .before .before .before .before .before .before .before .before .before .before .before .args .state) _ _ _ _ _ _ _ _ _ _ _ _ _ _ _ _ _ _ (c .before .before .before .before .before .before .before .before .bad-numbers .ensures) (c .before .before .before .before .before .before .before .over-numbers .ensures) (c .before .before .before .before .before .before .over-numbers2 .ensures) (c .before .before .before .before .before .count-numbers .ensures) (c .before .before .before .before .sum-numbers .ensures) (c .before .before .before .fault-numbers .ensures) (c .before .before .count-numbers2 .ensures) (c .before .sum-numbers2 .ensures) (c .open-numbers .ensures)
+returns c = numbers-told (c .before .before .before .before .before .before .before .before .before .before .before .before .before .before .before .args .state) _ _ _ _ _ _ _ _ _ _ _ _ _ _ _ _ _ _ (c .before .before .before .before .before .before .before .before .bad-numbers .ensures) (c .before .before .before .before .before .before .before .over-numbers .ensures) (c .before .before .before .before .before .before .over-numbers2 .ensures) (c .before .before .before .before .before .count-numbers .ensures .0) (c .before .before .before .before .sum-numbers .ensures .0) (c .before .before .before .fault-numbers .ensures) (c .before .before .count-numbers2 .ensures .0) (c .before .sum-numbers2 .ensures .0) (c .open-numbers .ensures)
 
 pub numbers-spec : {M : Type 1} → statement M
 numbers-spec =
