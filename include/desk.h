@@ -4,7 +4,7 @@
    docs/PROMISES.md names the theorems, docs/NUMBERS.md has an example of each number.
 
    A pointer goes to as many elements as the length behind it says; it is not null, also where that length is 0.
-   The buffers of one call do not overlap. Nothing is allocated, and nothing is kept between calls. */
+   The buffers of one call do not overlap. Nothing is allocated, and nothing is kept between calls; a call needs at most 256 KB of stack. */
 #ifndef DESK_H
 #define DESK_H
 

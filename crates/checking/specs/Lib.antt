@@ -2,5 +2,5 @@
 --   Check     what the check promises       Demand2   what belongs to the profile, and that every declaration agrees
 pub mod Check
 pub mod Demand2
--- Inner    what the two passes come to
+-- Inner    what a pass comes to
 pub mod Inner

@@ -1,4 +1,4 @@
--- THE STATE IN A ROW OF NUMBERS, as it is kept between two events. To be believed of nothing but the code: a row that is lent holds the state that `stateOf` reads in it.
+-- THE STATE IN A ROW OF NUMBERS, as it is kept between two events. Not to be believed: no promise to a caller speaks of it.
 --   keptLength      how many numbers they are
 --   stateOf ns      the state that they tell; headerOf, tallyOf, slipOf its parts
 --   Said b ns ms t  what the event t says is said in full, or nothing is changed
