@@ -1,5 +1,6 @@
 -- `kept::bad_of` meets its contract, mark by mark.
-use Rattle.kept.proofs.Marks.{bad-last, missed-le}
+use Rattle.laws.proofs.Arms.{missed-le}
+use Rattle.kept.proofs.Marks.{bad-last}
 use borrow.Author.Needs.{needs}
 use Rattle.kept.proofs.bad_of.Statement.{statement}
 use Rattle.kept.proofs.bad_of.Tie as tie

@@ -1,5 +1,6 @@
 -- `kept::fault_of` meets its contract, mark by mark.
-use Rattle.kept.proofs.Marks.{fault-last, missed-le}
+use Rattle.laws.proofs.Arms.{missed-le}
+use Rattle.kept.proofs.Marks.{fault-last}
 use borrow.Author.Needs.{needs}
 use Rattle.kept.proofs.fault_of.Statement.{statement}
 use Rattle.kept.proofs.fault_of.Tie as tie

@@ -2,7 +2,7 @@
 use Prim.Native.Nat.{ℕ}
 use Rattle.scan.specs.Words.{reach, tailOf}
 use Rattle.table.specs.Table.{elements, end, tags, elementAt, closeTag}
-use Rattle.table.proofs.Arms.{arm, last-key}
+use Rattle.laws.proofs.Arms.{arm, last-key}
 use Rattle.table.proofs.close_tail.Statement.{statement}
 use Rattle.table.proofs.close_tail.Tie as tie
 

@@ -1,7 +1,7 @@
 -- `table::first_of` meets its contract: each arm has the first row of its element.
 use Prim.Native.Nat.{ℕ}
 use Rattle.table.specs.Table.{elements, end, elementAt}
-use Rattle.table.proofs.Arms.{arm, last-key}
+use Rattle.laws.proofs.Arms.{arm, last-key}
 use Rattle.table.proofs.first_of.Statement.{statement}
 use Rattle.table.proofs.first_of.Tie as tie
 

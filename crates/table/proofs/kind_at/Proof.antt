@@ -2,7 +2,7 @@
 use Prim.Native.Nat.{ℕ}
 use Rattle.tree.specs.declared.Kind.{Kind}
 use Rattle.table.specs.Table.{elements, end, elementAt, kindOf}
-use Rattle.table.proofs.Arms.{arm, last-key}
+use Rattle.laws.proofs.Arms.{arm, last-key}
 use Rattle.table.proofs.kind_at.Statement.{statement}
 use Rattle.table.proofs.kind_at.Tie as tie
 

@@ -1,7 +1,7 @@
 -- `table::open_length` meets its contract: each arm has the length of its element's opening tag.
 use Prim.Native.Nat.{ℕ, _-_}
 use Rattle.table.specs.Table.{elements, end, elementAt}
-use Rattle.table.proofs.Arms.{arm, last-key}
+use Rattle.laws.proofs.Arms.{arm, last-key}
 use Rattle.table.proofs.open_length.Statement.{statement}
 use Rattle.table.proofs.open_length.Tie as tie
 

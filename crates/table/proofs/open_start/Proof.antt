@@ -1,7 +1,7 @@
 -- `table::open_start` meets its contract: each arm has the place of its element's opening tag.
 use Prim.Native.Nat.{ℕ}
 use Rattle.table.specs.Table.{elements, end, elementAt}
-use Rattle.table.proofs.Arms.{arm, last-key}
+use Rattle.laws.proofs.Arms.{arm, last-key}
 use Rattle.table.proofs.open_start.Statement.{statement}
 use Rattle.table.proofs.open_start.Tie as tie
 

@@ -1,7 +1,7 @@
 -- `table::part_of` meets its contract: each arm has the part of its element.
 use Prim.Native.Nat.{ℕ}
 use Rattle.table.specs.Table.{elements, end, elementAt}
-use Rattle.table.proofs.Arms.{arm, last-key}
+use Rattle.laws.proofs.Arms.{arm, last-key}
 use Rattle.table.proofs.part_of.Statement.{statement}
 use Rattle.table.proofs.part_of.Tie as tie
 

@@ -3,7 +3,7 @@ use Prim.Native.Nat.{ℕ}
 use mathlib.Core.List.{List, []}
 use lib.ListN.{getD}
 use Rattle.table.specs.Table.{rows, end}
-use Rattle.table.proofs.Arms.{arm, last-key}
+use Rattle.laws.proofs.Arms.{arm, last-key}
 use Rattle.table.proofs.row_numbers.Statement.{statement}
 use Rattle.table.proofs.row_numbers.Tie as tie
 
