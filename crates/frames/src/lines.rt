@@ -1,15 +1,45 @@
 // The lines of a list, cut at LF.
 ghost use mathlib.Core.Path.{_≡_};
-ghost use Rattle.laws.specs.Bytes.{span};
-ghost use lib.ListN.{length, take};
+ghost use Prim.Native.Nat.{_+_, _≤_};
+ghost use Rattle.laws.specs.Bytes.{all, span};
+ghost use lib.ListN.{length, take, drop};
 ghost use Rattle.laws.specs.Put.{putAt};
 ghost use Rattle.frames.specs.Lines.{notEnd, starts};
+
+// No byte of the text is LF. Every byte is looked at, none depends on another: so the compiler takes many at once.
+fn is_within(text: &[u8]) -> bool
+    ensures { λ r. ⌜ r ≡ all notEnd (now (text .entry)) ⌝ }
+{
+    let mut ended: u8 = 0;
+    let mut i = 0;
+    while i < text.len() {
+        if text[i] == b'\n' {
+            ended = 1;
+        }
+        i += 1;
+    }
+    ended == 0
+}
+
+// How many bytes stand at the front in whole stretches of 32 without LF.
+fn stretches(text: &[u8]) -> usize
+    ensures { λ r. ⌜ (r ≤ length (now (text .entry))) × (span notEnd (now (text .entry)) ≡ r + span notEnd (drop r (now (text .entry)))) ⌝ }
+{
+    let mut at = 0;
+    while 32 <= text.len() - at {
+        if !is_within(&text[at..at + 32]) {
+            return at;
+        }
+        at += 32;
+    }
+    at
+}
 
 // How many bytes stand before the first LF; all of them where there is none.
 pub fn line_length(text: &[u8]) -> usize
     ensures { λ r. ⌜ r ≡ span notEnd (now (text .entry)) ⌝ }
 {
-    let mut i = 0;
+    let mut i = stretches(text);
     while i < text.len() {
         if text[i] == b'\n' {
             return i;

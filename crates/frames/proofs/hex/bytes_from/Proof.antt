@@ -1,5 +1,5 @@
 -- `frames::hex::bytes_from` meets its contract. The invariant: with the bytes from i on put behind what is filled, they are all there.
-use Rattle.frames.proofs.Digits.{unhex-length}
+use Rattle.frames.proofs.Digits.{unhex-length, unhex-at}
 use Rattle.frames.specs.Hex.{unhex}
 use Rattle.laws.proofs.Puts.{put-nil, put-all, put-step}
 use Rattle.laws.specs.Put.{putAt}
@@ -34,11 +34,23 @@ module _ (s : Bytes) (at n : ℕ) (h : at + n ≤ length s) where
 loop-holds : tie.Need-loop-holds Inv-loop μ-loop
 loop-holds c = let x = c .before .before .args in (search needs, (search needs, put-all _ _ (sym (part-length (unhex (x .line .now)) (x .place) (length (x .out .now)) (c .before .before .pre)))))
 
-add-byte-at : tie.Need-add-byte-at Inv-loop μ-loop
-add-byte-at c = let x = c .before .before .before .before .args in omega (arith, unhex-length (x .line .now), c .before .before .before .before .pre)
+add-at : tie.Need-add-at Inv-loop μ-loop
+add-at c = let x = c .before .before .before .before .args in omega (arith, unhex-length (x .line .now), c .before .before .before .before .pre)
 
-byte-at-requires : tie.Need-byte-at-requires Inv-loop μ-loop
-byte-at-requires c κs = search needs
+mul-at : tie.Need-mul-at Inv-loop μ-loop
+mul-at c = let x = c .before .before .before .before .args in omega (arith, unhex-length (x .line .now), c .before .before .before .before .pre)
+
+shared-slice-read-pair : tie.Need-shared-slice-read-pair Inv-loop μ-loop
+shared-slice-read-pair c = let x = c .before .before .before .before .before .args in omega (arith, unhex-length (x .line .now), c .before .before .before .before .before .pre)
+
+add-pair : tie.Need-add-pair Inv-loop μ-loop
+add-pair c = let x = c .before .before .before .before .before .args in omega (arith, unhex-length (x .line .now), c .before .before .before .before .before .pre)
+
+shared-slice-read-pair-2 : tie.Need-shared-slice-read-pair-2 Inv-loop μ-loop
+shared-slice-read-pair-2 c = let x = c .before .before .before .before .before .before .args in omega (arith, unhex-length (x .line .now), c .before .before .before .before .before .before .pre)
+
+pair-requires : tie.Need-pair-requires Inv-loop μ-loop
+pair-requires c κs = search needs
 
 slice-write-out : tie.Need-slice-write-out Inv-loop μ-loop
 slice-write-out c = search needs
@@ -51,14 +63,16 @@ loop-less c = search needs
 
 loop-again : tie.Need-loop-again Inv-loop μ-loop
 loop-again c =
-    let l = c .before .before .loop in
-    let x = c .before .before .before .before .before .args in
+    let l = c .before .before .before .before .loop in
+    let x = c .before .before .before .before .before .before .before .args in
+    let h = c .before .before .before .before .before .before .before .pre in
     let s = unhex (x .line .now) in
-    let p = take (length (x .out .now)) (drop (x .place) s) in
+    let n = length (x .out .now) in
+    let p = take n (drop (x .place) s) in
     let i = l .i in
-    let k : i < length (x .out .now) = omega arith in
-    let e : getD p i 0 ≡ c .byte-at .result = part-at s (x .place) (length (x .out .now)) (c .before .before .before .before .before .pre) i k ∙ sym (c .byte-at .ensures) in
-    (omega arith, (simp length-set (l .inv .1 .0), rw (← e) (put-step (l .out) p i i (rw (part-length s (x .place) (length (x .out .now)) (c .before .before .before .before .before .pre)) k) (omega arith) ∙ l .inv .1 .1)))
+    let k : i < n = omega arith in
+    let e : getD p i 0 ≡ c .pair .result = part-at s (x .place) n h i k ∙ unhex-at (x .line .now) (x .place + i) (omega (arith, unhex-length (x .line .now), h)) ∙ sym (c .pair .ensures) in
+    (omega arith, (simp length-set (l .inv .1 .0), rw (← e) (put-step (l .out) p i i (rw (part-length s (x .place) n h) k) (omega arith) ∙ l .inv .1 .1)))
 
 same-length : tie.Need-same-length Inv-loop μ-loop
 same-length c = search needs
@@ -79,8 +93,12 @@ bytes-from-spec =
     Inv-loop
     μ-loop
     loop-holds
-    add-byte-at
-    byte-at-requires
+    add-at
+    mul-at
+    shared-slice-read-pair
+    add-pair
+    shared-slice-read-pair-2
+    pair-requires
     slice-write-out
     add-i
     loop-less

@@ -5,7 +5,6 @@ use Rattle.laws.specs.Bytes.{span}
 use borrow.Author.Tests.{eq-eqb, ne-eqb}
 use lib.ListN.{length, drop}
 use mathlib.Core.Path.{_≡_, sym, _∙_}
-use native.Mathlib.Nat.{zero-add}
 use Prim.Native.Nat.{_+_, _-_}
 use borrow.Author.Needs.{needs}
 use Rattle.frames.proofs.lines.line_length.Statement.{statement}
@@ -17,8 +16,11 @@ Inv-loop text i₀ i = span notEnd text ≡ i + span notEnd (drop i text)
 abbrev μ-loop : tie.MeasureT-loop
 μ-loop text i₀ i = length text - i
 
+stretches-requires : tie.Need-stretches-requires Inv-loop μ-loop
+stretches-requires c κs = search needs
+
 loop-holds : tie.Need-loop-holds Inv-loop μ-loop
-loop-holds c = sym (zero-add _)
+loop-holds c = c .stretches .ensures .1
 
 shared-slice-read-if1 : tie.Need-shared-slice-read-if1 Inv-loop μ-loop
 shared-slice-read-if1 c = search needs
@@ -44,6 +46,7 @@ line-length-spec =
     (tie.spec
     Inv-loop
     μ-loop
+    stretches-requires
     loop-holds
     shared-slice-read-if1
     returns
