@@ -3,6 +3,7 @@ ghost use mathlib.Core.Path.{_≡_};
 ghost use Prim.Native.Nat.{_+_, _*_, _≤_, max};
 ghost use lib.Dec.{eqb};
 ghost use Rattle.laws.specs.Bytes.{all};
+ghost use Rattle.laws.specs.Put.{putAt};
 ghost use lib.ListN.{length, take, drop, getD};
 ghost use Rattle.frames.specs.Hex.{hexDigit, hexValue, hex, unhex};
 
@@ -72,11 +73,28 @@ pub fn is_hex(line: &[u8]) -> bool
     all_digits(line)
 }
 
-// The byte that two digits stand for.
-fn pair(high: u8, low: u8) -> u8
-    ensures { λ r. ⌜ r ≡ hexValue high * 16 + hexValue low ⌝ }
+// What a digit is worth, and 0 where it is none, from a table: for a digit by itself.
+fn worth(c: u8) -> u8
+    ensures { λ r. ⌜ r ≡ hexValue c ⌝ }
 {
-    hex_value(high) * 16 + hex_value(low)
+    match c {
+        b'1' => 1,
+        b'2' => 2,
+        b'3' => 3,
+        b'4' => 4,
+        b'5' => 5,
+        b'6' => 6,
+        b'7' => 7,
+        b'8' => 8,
+        b'9' => 9,
+        b'A' => 10,
+        b'B' => 11,
+        b'C' => 12,
+        b'D' => 13,
+        b'E' => 14,
+        b'F' => 15,
+        _ => 0,
+    }
 }
 
 // The byte at a place of those that the line stands for, counted from 0, and 0 behind their end.
@@ -86,7 +104,54 @@ pub fn byte_at(line: &[u8], place: usize) -> u8
     if line.len() / 2 <= place {
         return 0;
     }
-    pair(line[place * 2], line[place * 2 + 1])
+    let high = worth(line[place * 2]);
+    let low = worth(line[place * 2 + 1]);
+    high * 16 + low
+}
+
+// ─── many bytes ───
+
+// Fills `to` with the bytes that the digits stand for: first what each digit is worth, then two a byte. With a width that is known the compiler takes many at once.
+fn decode(digits: &[u8], to: &mut [u8])
+    requires { ⌜ (length (now digits) ≡ length (now to) * 2) × (length (now to) ≤ 16) ⌝ }
+    ensures { λ _. ⌜ now (to .exit) ≡ unhex (now (digits .entry)) ⌝ }
+{
+    let mut values = [0u8; 32];
+    let mut j = 0;
+    while j < digits.len() {
+        values[j] = hex_value(digits[j]);
+        j += 1;
+    }
+    let mut i = 0;
+    while i < to.len() {
+        to[i] = values[i * 2] * 16 + values[i * 2 + 1];
+        i += 1;
+    }
+}
+
+// The `width` bytes from `place` on, into `out` from `to` on.
+fn stride(line: &[u8], place: usize, width: usize, to: usize, out: &mut [u8])
+    requires { ⌜ (width ≤ 16) × (to + width ≤ length (now out)) ⌝ }
+    requires { ⌜ place + width ≤ length (unhex (now line)) ⌝ }
+    ensures { λ _. ⌜ now (out .exit) ≡ putAt (now (out .entry)) to (take width (drop place (unhex (now (line .entry))))) ⌝ }
+{
+    let at = place * 2;
+    decode(&line[at..at + width * 2], &mut out[to..to + width]);
+}
+
+// Fills `out` with the bytes from a place on, so many at a time. The last stride ends where `out` ends: it may go over some bytes again.
+fn in_strides(line: &[u8], place: usize, width: usize, out: &mut [u8])
+    requires { ⌜ (1 ≤ width) × ((width ≤ 16) × (width ≤ length (now out))) ⌝ }
+    requires { ⌜ place + length (now out) ≤ length (unhex (now line)) ⌝ }
+    ensures { λ _. ⌜ now (out .exit) ≡ take (length (now (out .entry))) (drop place (unhex (now (line .entry)))) ⌝ }
+{
+    let last = out.len() - width;
+    let mut i = 0;
+    while i < last {
+        stride(line, place + i, width, i, out);
+        i += width;
+    }
+    stride(line, place + last, width, last, out);
 }
 
 // Fills `out` with the bytes from a place on.
@@ -94,10 +159,15 @@ pub fn bytes_from(line: &[u8], place: usize, out: &mut [u8])
     requires { ⌜ place + length (now out) ≤ length (unhex (now line)) ⌝ }
     ensures { λ _. ⌜ now (out .exit) ≡ take (length (now (out .entry))) (drop place (unhex (now (line .entry)))) ⌝ }
 {
-    let mut i = 0;
-    while i < out.len() {
-        let at = (place + i) * 2;
-        out[i] = pair(line[at], line[at + 1]);
-        i += 1;
+    if 16 <= out.len() {
+        in_strides(line, place, 16, out);
+        return;
+    }
+    if 8 <= out.len() {
+        in_strides(line, place, 8, out);
+        return;
+    }
+    if 0 < out.len() {
+        in_strides(line, place, 1, out);
     }
 }
