@@ -21,16 +21,18 @@ fn is_within(text: &[u8]) -> bool
     ended == 0
 }
 
-// How many bytes stand at the front in whole stretches of 32 without LF.
-fn stretches(text: &[u8]) -> usize
+// A place that whole stretches of so many bytes without LF lead to, from a place on that no LF stands before.
+fn stretches(text: &[u8], from: usize, width: usize) -> usize
+    requires { ⌜ 1 ≤ width ⌝ }
+    requires { ⌜ (from ≤ length (now text)) × (span notEnd (now text) ≡ from + span notEnd (drop from (now text))) ⌝ }
     ensures { λ r. ⌜ (r ≤ length (now (text .entry))) × (span notEnd (now (text .entry)) ≡ r + span notEnd (drop r (now (text .entry)))) ⌝ }
 {
-    let mut at = 0;
-    while 32 <= text.len() - at {
-        if !is_within(&text[at..at + 32]) {
+    let mut at = from;
+    while width <= text.len() - at {
+        if !is_within(&text[at..at + width]) {
             return at;
         }
-        at += 32;
+        at += width;
     }
     at
 }
@@ -39,7 +41,8 @@ fn stretches(text: &[u8]) -> usize
 pub fn line_length(text: &[u8]) -> usize
     ensures { λ r. ⌜ r ≡ span notEnd (now (text .entry)) ⌝ }
 {
-    let mut i = stretches(text);
+    let far = stretches(text, 0, 64);
+    let mut i = stretches(text, far, 8);
     while i < text.len() {
         if text[i] == b'\n' {
             return i;

@@ -5,22 +5,27 @@ use Rattle.laws.specs.Bytes.{span}
 use borrow.Author.Tests.{eq-eqb, ne-eqb}
 use lib.ListN.{length, drop}
 use mathlib.Core.Path.{_≡_, sym, _∙_}
+use native.Mathlib.Nat.{zero-add}
+use native.Mathlib.Omega.{arith}
 use Prim.Native.Nat.{_+_, _-_}
 use borrow.Author.Needs.{needs}
 use Rattle.frames.proofs.lines.line_length.Statement.{statement}
 use Rattle.frames.proofs.lines.line_length.Tie as tie
 
 abbrev Inv-loop : tie.InvT-loop
-Inv-loop text i₀ i = span notEnd text ≡ i + span notEnd (drop i text)
+Inv-loop text far i₀ i = span notEnd text ≡ i + span notEnd (drop i text)
 
 abbrev μ-loop : tie.MeasureT-loop
-μ-loop text i₀ i = length text - i
+μ-loop text far i₀ i = length text - i
 
 stretches-requires : tie.Need-stretches-requires Inv-loop μ-loop
-stretches-requires c κs = search needs
+stretches-requires c κs = (omega arith, (omega arith, sym (zero-add _)))
+
+stretches-requires-2 : tie.Need-stretches-requires-2 Inv-loop μ-loop
+stretches-requires-2 c κs = (omega arith, c .stretches .ensures)
 
 loop-holds : tie.Need-loop-holds Inv-loop μ-loop
-loop-holds c = c .stretches .ensures .1
+loop-holds c = c .stretches2 .ensures .1
 
 shared-slice-read-if1 : tie.Need-shared-slice-read-if1 Inv-loop μ-loop
 shared-slice-read-if1 c = search needs
@@ -47,6 +52,7 @@ line-length-spec =
     Inv-loop
     μ-loop
     stretches-requires
+    stretches-requires-2
     loop-holds
     shared-slice-read-if1
     returns

@@ -5,7 +5,6 @@ use Rattle.laws.specs.Bytes.{span}
 use borrow.Author.Tests.{not-false}
 use lib.ListN.{length, drop}
 use mathlib.Core.Path.{_≡_, sym, _∙_}
-use native.Mathlib.Nat.{zero-add}
 use native.Mathlib.Omega.{arith}
 use Prim.Native.Nat.{_+_, _-_, _≤_}
 use borrow.Author.Needs.{needs}
@@ -13,13 +12,13 @@ use Rattle.frames.proofs.lines.stretches.Statement.{statement}
 use Rattle.frames.proofs.lines.stretches.Tie as tie
 
 abbrev Inv-loop : tie.InvT-loop
-Inv-loop text at₀ at = (at ≤ length text) × (span notEnd text ≡ at + span notEnd (drop at text))
+Inv-loop text from width at₀ at = (at ≤ length text) × (span notEnd text ≡ at + span notEnd (drop at text))
 
 abbrev μ-loop : tie.MeasureT-loop
-μ-loop text at₀ at = length text - at
+μ-loop text from width at₀ at = length text - at
 
 loop-holds : tie.Need-loop-holds Inv-loop μ-loop
-loop-holds c = (search needs, sym (zero-add _))
+loop-holds c = c .before .pre .1
 
 sub-loop : tie.Need-sub-loop Inv-loop μ-loop
 sub-loop c = search needs
@@ -52,8 +51,9 @@ loop-again : tie.Need-loop-again Inv-loop μ-loop
 loop-again c =
     let l = c .before .before .before .before .loop in
     let s = c .before .before .before .before .before .before .args .text .now in
-    let h : l .at + 32 ≤ length s = omega arith in
-    (h, l .inv .1 ∙ span-stretch notEnd s (l .at) 32 h (sym (c .before .is-within .ensures) ∙ not-false _ (c .if1 .left)))
+    let w = c .before .before .before .before .before .before .args .width in
+    let h : l .at + w ≤ length s = omega arith in
+    (h, l .inv .1 ∙ span-stretch notEnd s (l .at) w h (sym (c .before .is-within .ensures) ∙ not-false _ (c .if1 .left)))
 
 returns-2 : tie.Need-returns-2 Inv-loop μ-loop
 returns-2 c = c .before .loop .inv
