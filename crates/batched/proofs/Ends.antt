@@ -1,12 +1,26 @@
 -- WHERE A LINE ENDS.
 --   end-is, end-within   the end as it is read, from the start of the line on; it is within the list
 --   part-is              the part up to there is the line
+--   lead-there           the line of a collection has its kind byte and lead bytes, in 16 digits
+--   lead-cents           by these its cents are told
 use Prim.Native.Nat.{ℕ, _+_, _-_, _≤_}
+use native.Mathlib.Nat.{le-refl}
 use native.Mathlib.Omega.{arith}
-use mathlib.Core.Path.{_≡_, ap, _∙_}
+use mathlib.Core.Bool.{true, false}
+use mathlib.Core.List.{[], _∷_}
+use mathlib.Core.Path.{_≡_, refl, ap, sym, _∙_}
+use lib.Dec.{eqb, leb, leb→le}
 use lib.ListN.{length, take, drop, length-drop}
+use lib.Seq.{length-take-le, take-take}
 use Rattle.laws.specs.Bytes.{Bytes, span}
 use Rattle.laws.proofs.Loops.{drop-part, span-le}
+use Rattle.laws.proofs.Tests.{and-l, and-r, true-T}
+use Rattle.frames.specs.Hex.{unhex}
+use Rattle.frames.specs.Frames.{holds, framed, collection}
+use Rattle.frames.proofs.Digits.{unhex-length}
+use Rattle.frames.proofs.Parts.{unhex-take}
+use Rattle.listed.specs.Listed.{collectionOf}
+use Rattle.batched.specs.Ready.{collectionAt}
 use Rattle.frames.specs.Lines.{notEnd, lineFrom}
 
 module _ (s : Bytes) (a n : ℕ) (e : n ≡ span notEnd (take (length s - a) (drop a s))) where
@@ -21,3 +35,25 @@ module _ (s : Bytes) (a n : ℕ) (e : n ≡ span notEnd (take (length s - a) (dr
 
 pub part-is : (s : Bytes) (a e : ℕ) → e ≡ a + span notEnd (drop a s) → take (e - a) (drop a s) ≡ lineFrom s a
 part-is s a e h = let k : e - a ≡ span notEnd (drop a s) = omega arith in rw k
+
+-- ─── the lead of a collection ───
+
+eight : (s : Bytes) → framed collection s ≡ true → 8 ≤ length s
+eight [] h = absurd (true-T false h)
+eight (k ∷ s) h =
+    let t = and-r (eqb k 2) _ (true-T (framed collection (k ∷ s)) h) in
+    omega (arith, leb→le 7 (length s) (and-l (leb 7 (length s)) _ t))
+
+cents-front : (s : Bytes) → collectionOf (take 8 s) .cents ≡ collectionOf s .cents
+cents-front [] = refl
+cents-front (k ∷ s) = rw (take-take 7 7 s (le-refl 7))
+
+module _ (s : Bytes) (a : ℕ) (h : framed collection (unhex (lineFrom s a)) ≡ true) where
+  pub lead-there : 16 ≤ span notEnd (drop a s)
+  lead-there =
+      omega (arith, eight (unhex (lineFrom s a)) h, unhex-length (lineFrom s a), length-take-le (span notEnd (drop a s)) (drop a s) (span-le notEnd (drop a s)))
+
+  pub lead-cents : collectionOf (unhex (take (a + 16 - a) (drop a s))) .cents ≡ collectionAt s a .cents
+  lead-cents =
+      let k : a + 16 - a ≡ 16 = omega arith in
+      rw (k, ← take-take 16 (span notEnd (drop a s)) (drop a s) lead-there, unhex-take 8 (lineFrom s a)) (cents-front (unhex (lineFrom s a)))

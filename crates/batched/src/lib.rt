@@ -27,14 +27,14 @@ fn line_end(list: &[u8], start: usize) -> usize
     start + frames::lines::line_length(&list[start..])
 }
 
-// The cents of the line that starts at a place, where it is one of the batch, else 0.
+// The cents of the line that starts at a place, where it is one of the batch, else 0. They stand in its first eight bytes, in 16 digits.
 fn own_cents(list: &[u8], start: usize, own: bool) -> u64
     requires { ⌜ start ≤ length (now list) ⌝ }
+    requires { ⌜ framed collection (unhex (lineFrom (now list) start)) ≡ true ⌝ }
     ensures { λ r. ⌜ r ≡ total (λ x. x .cents) (putIf own (collectionAt (now (list .entry)) start) []) ⌝ }
 {
     if own {
-        let end = line_end(list, start);
-        return pieces::transaction::cents_of(&list[start..end]);
+        return pieces::transaction::cents_of(&list[start..start + 16]);
     }
     0
 }

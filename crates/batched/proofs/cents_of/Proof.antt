@@ -32,7 +32,7 @@ shared-slice-read-own-cents-2 : tie.Need-shared-slice-read-own-cents-2 Inv-loop 
 shared-slice-read-own-cents-2 c = search needs
 
 own-cents-requires : tie.Need-own-cents-requires Inv-loop μ-loop
-own-cents-requires c κs = let x = c .before .before .before .before .before .before .before in x .pre .inside _ (c .before .before .loop-test .taken)
+own-cents-requires c κs = let x = c .before .before .before .before .before .before .before in (x .pre .inside _ (c .before .before .loop-test .taken), x .pre .frame _ (c .before .before .loop-test .taken))
 
 add-cents : tie.Need-add-cents Inv-loop μ-loop
 add-cents c = let x = c .before .before .before .before .before .before .before .before in let l = c .before .before .before .before .loop in omega (arith, x .pre .few, l .inv .within, l .inv .few, summed-few (x .args .list .now) (x .args .table .now) (x .args .labels .now) (x .args .batch) (x .pre) (l .i) (c .before .before .before .loop-test .taken) _ (c .own-cents .ensures))

@@ -1,6 +1,9 @@
--- `batched::own_cents` meets its contract.
-use Rattle.batched.proofs.Ends.{part-is}
-use mathlib.Core.Path.{_≡_}
+-- `batched::own_cents` meets its contract. The lead of the line tells its cents.
+use Rattle.batched.proofs.Ends.{lead-there, lead-cents}
+use Rattle.frames.specs.Lines.{notEnd}
+use Rattle.laws.proofs.Loops.{span-le}
+use lib.ListN.{drop, length-drop}
+use mathlib.Core.Path.{_≡_, _∙_}
 use Prim.Native.Nat.{ℕ, _+_}
 use native.Mathlib.Omega.{arith}
 use borrow.Author.Needs.{needs}
@@ -10,8 +13,12 @@ use Rattle.batched.proofs.own_cents.Tie as tie
 own-cents : (n m : ℕ) → n ≡ m → n ≡ m + 0
 own-cents n m e = omega arith
 
-line-end-requires : tie.Need-line-end-requires
-line-end-requires c κs = search needs
+add-cents-of : tie.Need-add-cents-of
+add-cents-of c =
+    let x = c .before .before in
+    let s = x .args .list .now in
+    let a = x .args .start in
+    omega (arith, lead-there s a (x .pre .1), span-le notEnd (drop a s), length-drop a s, x .pre .0)
 
 sub-cents-of : tie.Need-sub-cents-of
 sub-cents-of c = search needs
@@ -20,13 +27,19 @@ part-cents-of-start : tie.Need-part-cents-of-start
 part-cents-of-start c = search needs
 
 part-cents-of-end : tie.Need-part-cents-of-end
-part-cents-of-end c = search needs
+part-cents-of-end c =
+    let x = c .before .before in
+    let s = x .args .list .now in
+    let a = x .args .start in
+    omega (arith, lead-there s a (x .pre .1), span-le notEnd (drop a s), length-drop a s, x .pre .0)
 
 cents-of-requires : tie.Need-cents-of-requires
 cents-of-requires c κs = search needs
 
 returns : tie.Need-returns
-returns c = let x = c .before .before .before .before .before in rw (c .before .before .before .if1 .taken) (own-cents _ _ (rw (part-is (x .args .list .now) (x .args .start) _ (c .before .before .line-end .ensures .0)) at (c .cents-of .ensures)))
+returns c =
+    let x = c .before .before .before .before in
+    rw (c .before .before .if1 .taken) (own-cents _ _ (c .cents-of .ensures ∙ lead-cents (x .args .list .now) (x .args .start) (x .pre .1)))
 
 returns-2 : tie.Need-returns-2
 returns-2 c = rw (c .if1 .left)
@@ -35,7 +48,7 @@ pub own-cents-spec : {M : Type 1} → statement M
 own-cents-spec =
     tie.close
     (tie.spec
-    line-end-requires
+    add-cents-of
     sub-cents-of
     part-cents-of-start
     part-cents-of-end
