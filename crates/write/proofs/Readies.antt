@@ -1,13 +1,14 @@
 -- A GOOD LIST HAS ALL THAT ITS WRITERS ASK: t its table of starts, ls the labels of its collections, m the number of batches that they need.
 --   ready, batches-ready    each collection is found and has a label; each batch has a collection
 --   written-is              the message by labels is the written one
+--   written-short           it is not longer than a message may be
 use Prim.Native.Nat.{ℕ, _+_, _≤_, _<_}
 use native.Mathlib.Omega.{arith}
 use mathlib.Core.List.{List}
 use mathlib.Core.Path.{_≡_, ap}
 use lib.ListN.{length, getD}
 use Rattle.laws.specs.Bytes.{Bytes}
-use Rattle.profile.specs.Limits.{mostBatches}
+use Rattle.profile.specs.Limits.{mostBytes, mostBatches}
 use Rattle.frames.specs.Lines.{starts, lineFrom}
 use Rattle.frames.specs.Hex.{unhex}
 use Rattle.frames.proofs.Starts.{starts-number}
@@ -19,10 +20,10 @@ use Rattle.listed.specs.Listed.{Collection, creditorOf, listed, numbersOf}
 use Rattle.listed.proofs.Terms.{terms-decide}
 use Rattle.listed.proofs.Goods.{good-number, good-creditor, good-collections}
 use Rattle.listed.proofs.Found.{creditor-found, inside, collection-found, collection-framed, collection-good, label-some}
-use Rattle.listed.proofs.Batches.{batches-by-label}
+use Rattle.listed.proofs.Batches.{batches-by-label, need-by-number}
 use Rattle.written.specs.Written.{noCollection, batchesFor, written}
 use Rattle.written.specs.Pieces.{messageBytes}
-use Rattle.written.proofs.Bundled.{list-written}
+use Rattle.written.proofs.Bundled.{list-written, list-length}
 use Rattle.batched.specs.Ready.{Ready, Batches, batchesFrom}
 
 module _ (s : Bytes) (c n : ℕ) (e : judgedList s c ≡ Good n) (t ls : List ℕ) (u : t ≡ starts s) (v : length ls ≡ n) where
@@ -51,3 +52,10 @@ module _ (s : Bytes) (c n : ℕ) (e : judgedList s c ≡ Good n) (t ls : List �
     written-is =
         rw (creditor-found s c n e, ← by-label)
         (list-written terms-decide s c (list .least) (good-creditor s c n e) (good-collections s c n e) (omega (arith, good-number s c n e, list .some)))
+
+    -- it is not longer than a message may be
+    pub written-short : m ≤ mostBatches → length (messageBytes (creditorOf (unhex (lineFrom s 0))) (batchesFrom 0 m ls (listed s))) ≤ mostBytes
+    written-short h =
+        rw written-is
+        (list-length terms-decide s c (list .least) (good-creditor s c n e) (good-collections s c n e) (omega (arith, good-number s c n e, list .some))
+        (omega (arith, good-number s c n e, list .few)) (omega (arith, h, x, need-by-number s c n e)))

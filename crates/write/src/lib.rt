@@ -3,8 +3,9 @@
 //   message   the message of a list whose collections have their labels
 ghost use mathlib.Core.Path.{_≡_};
 ghost use mathlib.Core.Bool.{true};
-ghost use Prim.Native.Nat.{_+_};
+ghost use Prim.Native.Nat.{_+_, _≤_};
 ghost use lib.ListN.{length};
+ghost use Rattle.profile.specs.Limits.{mostBytes};
 ghost use Rattle.frames.specs.Hex.{unhex};
 ghost use Rattle.frames.specs.Frames.{framed, creditor};
 ghost use Rattle.daylist.specs.Stages.{judgedList};
@@ -24,8 +25,8 @@ pub enum Written {
     Refused(profile::ListRefusal),
 }
 
-// The message of a list whose collections have their labels, `line` being the creditor's. Where there is no room for it nothing is written.
-fn write_labelled(
+// The message of a list whose collections have their labels, `line` being the creditor's, measured first. Where there is no room for it nothing is written.
+fn write_measured(
     line: &[u8],
     list: &[u8],
     table: &[usize],
@@ -44,6 +45,27 @@ fn write_labelled(
     }
     message::put_message(out, line, list, table, labels, batches);
     Written::Length(length)
+}
+
+// The same. An output that has room for the longest message there is needs no measuring.
+fn write_labelled(
+    line: &[u8],
+    list: &[u8],
+    table: &[usize],
+    labels: &[u64],
+    batches: u64,
+    out: &mut [u8],
+) -> Written
+    requires { ⌜ framed creditor (unhex (now line)) ≡ true ⌝ }
+    requires { ⌜ Batches (now list) (now table) (now labels) batches ⌝ }
+    requires { ⌜ length (messageBytes (creditorOf (unhex (now line))) (batchesFrom 0 batches (now labels) (listed (now list)))) ≤ mostBytes ⌝ }
+    ensures { λ r. ⌜ r ≡ fitted (messageBytes (creditorOf (unhex (now (line .entry)))) (batchesFrom 0 batches (now (labels .entry)) (listed (now (list .entry))))) (length (now (out .entry))) ⌝ }
+    ensures { λ r. ⌜ now (out .exit) ≡ after r (messageBytes (creditorOf (unhex (now (line .entry)))) (batchesFrom 0 batches (now (labels .entry)) (listed (now (list .entry))))) (now (out .entry)) ⌝ }
+{
+    if profile::Profile::BYTES <= out.len() {
+        return Written::Length(message::put_message(out, line, list, table, labels, batches));
+    }
+    write_measured(line, list, table, labels, batches, out)
 }
 
 // The message of a list that is judged good, with a place for the starts of its lines and for the labels of its collections.

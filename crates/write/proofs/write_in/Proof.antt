@@ -1,7 +1,7 @@
 -- `write::write_in` meets its contract. A good list, with its table and its labels, has all that its writers ask.
 use Rattle.write.proofs.Answers.{answered-many, answered-good}
 use Rattle.listed.proofs.Found.{creditor-framed}
-use Rattle.write.proofs.Readies.{batches-ready, written-is}
+use Rattle.write.proofs.Readies.{batches-ready, written-is, written-short}
 use Rattle.batched.specs.Ready.{batchesFrom}
 use Rattle.listed.specs.Listed.{listed, creditorOf}
 use Rattle.written.specs.Pieces.{messageBytes}
@@ -47,7 +47,7 @@ write-labelled-requires c κs =
     let x = c .before .before .before .before .before .before .before .before .before .before .before .before .before .before .before .before .before in
     let l = c .before .before .before .before .before .before .before .before .before .before .label in
     let v : length (c .before .before .before .before .before .before .before .before .before .before .label .last .1 .1 .1 .0) ≡ length (x .args .labels .now) = search needs in
-    (rw (c .before .before .before .before .line-length .ensures) (creditor-framed (c .before .before .before .before .before .before .before .before .before .before .before .before .before .before .before .before .before .args .list .now) (c .before .before .before .before .before .before .before .before .before .before .before .before .before .before .before .before .before .args .ceiling) (length (c .before .before .before .before .before .before .before .before .before .before .before .before .before .before .before .before .before .args .labels .now)) (c .before .before .before .before .before .before .before .before .before .before .before .before .before .before .before .before .before .pre .0)), batches-ready (c .before .before .before .before .before .before .before .before .before .before .before .before .before .before .before .before .before .args .list .now) (c .before .before .before .before .before .before .before .before .before .before .before .before .before .before .before .before .before .args .ceiling) (length (c .before .before .before .before .before .before .before .before .before .before .before .before .before .before .before .before .before .args .labels .now)) (c .before .before .before .before .before .before .before .before .before .before .before .before .before .before .before .before .before .pre .0) (c .before .before .before .before .before .before .before .before .before .before .label .last .1 .1 .0) (c .before .before .before .before .before .before .before .before .before .before .label .last .1 .1 .1 .0) (l .ensures .1 .0) v (l .ensures .1 .1) (l .result) (l .ensures .0) (c .before .before .before .before .before .if1 .left))
+    (rw (c .before .before .before .before .line-length .ensures) (creditor-framed (x .args .list .now) (x .args .ceiling) (length (x .args .labels .now)) (x .pre .0)), (batches-ready (x .args .list .now) (x .args .ceiling) (length (x .args .labels .now)) (x .pre .0) (c .before .before .before .before .before .before .before .before .before .before .label .last .1 .1 .0) (c .before .before .before .before .before .before .before .before .before .before .label .last .1 .1 .1 .0) (l .ensures .1 .0) v (l .ensures .1 .1) (l .result) (l .ensures .0) (c .before .before .before .before .before .if1 .left), rw (c .before .before .before .before .line-length .ensures) (written-short (x .args .list .now) (x .args .ceiling) (length (x .args .labels .now)) (x .pre .0) (c .before .before .before .before .before .before .before .before .before .before .label .last .1 .1 .0) (c .before .before .before .before .before .before .before .before .before .before .label .last .1 .1 .1 .0) (l .ensures .1 .0) v (l .ensures .1 .1) (l .result) (l .ensures .0) (c .before .before .before .before .before .if1 .left))))
 
 same-length-3 : tie.Need-same-length-3
 same-length-3 c = search needs
