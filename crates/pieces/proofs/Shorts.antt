@@ -2,6 +2,7 @@
 --   byte-small                a byte that two digits stand for is at most 255
 --   text-short                a text is at most 255 bytes long
 --   text-has                  a line that has a text holds the frame that is told
+--   text-told                 the part that is told is the text's
 --   text-within, text-is      the part of a text is within the line, and its digits stand for the text
 --   text-none, text-some      the text is empty exactly where its part is
 use Prim.Native.Nat.{ℕ, zero, suc, _+_, _-_, _*_, _<_, _≤_}
@@ -48,19 +49,19 @@ pub text-has : {f : Frame} (n i : ℕ) (s : Bytes) → f ≡ frameOf n → Has n
 text-has n i s e h = rw e (h .is, h .there)
 
 module _ (n i : ℕ) (line : Bytes) (p : Part) (f : Frame) (e : f ≡ frameOf n) (q : p ≡ partOf f i (unhex line)) where
-  told : p ≡ partOf (frameOf n) i (unhex line)
-  told = rw (← e) q
+  pub text-told : p ≡ partOf (frameOf n) i (unhex line)
+  text-told = rw (← e) q
 
   pub text-within : Has n i (unhex line) → p .start + p .length ≤ length line
-  text-within h = rw told (part-within (frameOf n) line (h .is) i (h .there))
+  text-within h = rw text-told (part-within (frameOf n) line (h .is) i (h .there))
 
   pub text-is : Has n i (unhex line) → unhex (take (p .start + p .length - p .start) (drop (p .start) line)) ≡ textAt n i (unhex line)
   text-is h =
       let a : p .start + p .length - p .start ≡ p .length = omega arith in
-      rw (a, told) (part-text (frameOf n) line (h .is) i (h .there))
+      rw (a, text-told) (part-text (frameOf n) line (h .is) i (h .there))
 
   size : p .length ≡ length (textAt n i (unhex line)) * 2
-  size = ap (λ (x : Part). x .length) told
+  size = ap (λ (x : Part). x .length) text-told
 
   pub text-none : p .length ≡ 0 → length (textAt n i (unhex line)) ≡ 0
   text-none z = omega (arith, size)

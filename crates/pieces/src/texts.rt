@@ -6,9 +6,30 @@ ghost use Prim.Native.Nat.{_+_, _≤_, _<_, _^_};
 ghost use lib.ListN.{length};
 ghost use Rattle.frames.specs.Hex.{unhex};
 ghost use Rattle.frames.specs.Frames.{frameOf};
+ghost use Rattle.frames.specs.Parts.{partOf};
 ghost use Rattle.put.specs.Wrote.{Wrote};
 ghost use Rattle.written.specs.Pieces.{bankBytes};
 ghost use Rattle.pieces.specs.Texts.{Has, textAt};
+
+// A text that stands at a part of the line.
+fn put_part(
+    out: &mut [u8],
+    at: usize,
+    line: &[u8],
+    number: usize,
+    i: usize,
+    part: frames::Part,
+) -> usize
+    requires { ⌜ Has number i (unhex (now line)) ⌝ }
+    requires { ⌜ part ≡ partOf (frameOf number) i (unhex (now line)) ⌝ }
+    requires { ⌜ at + 255 < 2 ^ 32 ⌝ }
+    ensures { λ r. ⌜ Wrote (now (out .entry)) (now (out .exit)) at r (textAt number i (unhex (now (line .entry)))) ⌝ }
+    ensures { λ r. ⌜ r ≤ at + 255 ⌝ }
+{
+    let start = part.start;
+    let end = start + part.length;
+    put::put_hex(out, at, &line[start..end])
+}
 
 // A text.
 pub fn put_text(out: &mut [u8], at: usize, line: &[u8], number: usize, i: usize) -> usize
@@ -18,9 +39,27 @@ pub fn put_text(out: &mut [u8], at: usize, line: &[u8], number: usize, i: usize)
     ensures { λ r. ⌜ r ≤ at + 255 ⌝ }
 {
     let part = frames::text_part(line, frames::frame_of(number), i);
-    let start = part.start;
-    let end = start + part.length;
-    put::put_hex(out, at, &line[start..end])
+    put_part(out, at, line, number, i, part)
+}
+
+// Bytes, and behind them a text that stands at a part of the line.
+pub fn put_part_behind(
+    out: &mut [u8],
+    at: usize,
+    lead: &[u8],
+    line: &[u8],
+    number: usize,
+    i: usize,
+    part: frames::Part,
+) -> usize
+    requires { ⌜ Has number i (unhex (now line)) ⌝ }
+    requires { ⌜ part ≡ partOf (frameOf number) i (unhex (now line)) ⌝ }
+    requires { ⌜ at + length (now lead) + 255 < 2 ^ 32 ⌝ }
+    ensures { λ r. ⌜ Wrote (now (out .entry)) (now (out .exit)) at r (now (lead .entry) ++ textAt number i (unhex (now (line .entry)))) ⌝ }
+    ensures { λ r. ⌜ r ≤ at + length (now (lead .entry)) + 255 ⌝ }
+{
+    let next = put::put(out, at, lead);
+    put_part(out, next, line, number, i, part)
 }
 
 // Bytes, and a text behind them.
@@ -56,6 +95,6 @@ pub fn put_bank(out: &mut [u8], at: usize, line: &[u8], number: usize, i: usize)
             b"<FinInstnId><Othr><Id>NOTPROVIDED</Id></Othr></FinInstnId>",
         );
     }
-    let next = put_behind(out, at, b"<FinInstnId><BICFI>", line, number, i);
+    let next = put_part_behind(out, at, b"<FinInstnId><BICFI>", line, number, i, part);
     put::put(out, next, b"</BICFI></FinInstnId>")
 }

@@ -20,7 +20,7 @@ fn put_remittance(out: &mut [u8], at: usize, line: &[u8]) -> usize
     if part.length == 0 {
         return at;
     }
-    let next = texts::put_behind(out, at, b"<RmtInf><Ustrd>", line, 2, 7);
+    let next = texts::put_part_behind(out, at, b"<RmtInf><Ustrd>", line, 2, 7, part);
     put::put(out, next, b"</Ustrd></RmtInf>")
 }
 

@@ -1,6 +1,6 @@
 -- `pieces::texts::put_bank` meets its contract: the text is empty where its part is.
 use Rattle.put.proofs.Writes.{wrote-then}
-use Rattle.pieces.proofs.Shorts.{text-has, text-none, text-some}
+use Rattle.pieces.proofs.Shorts.{text-has, text-told, text-none, text-some}
 use Rattle.pieces.proofs.Choices.{bank-none, bank-some}
 use Rattle.pieces.specs.Texts.{textAt}
 use Rattle.frames.specs.Hex.{unhex}
@@ -30,11 +30,13 @@ returns c =
 same-length : tie.Need-same-length
 same-length c = returns c .0 .same
 
-slice-aggregate-put-behind : tie.Need-slice-aggregate-put-behind
-slice-aggregate-put-behind c = refl
+slice-aggregate-put-part-behind : tie.Need-slice-aggregate-put-part-behind
+slice-aggregate-put-part-behind c = refl
 
-put-behind-requires : tie.Need-put-behind-requires
-put-behind-requires c κs = search needs
+put-part-behind-requires : tie.Need-put-part-behind-requires
+put-part-behind-requires c κs =
+    let x = c .before .before .before .before .before .before .before .before in
+    (x .pre .0, (text-told (x .args .number) (x .args .i) (x .args .line .now) _ _ (c .before .before .before .before .before .frame-of .ensures) (c .before .before .before .before .text-part .ensures), search needs))
 
 slice-aggregate-put-2 : tie.Need-slice-aggregate-put-2
 slice-aggregate-put-2 c = refl
@@ -45,7 +47,7 @@ put-requires-2 c κs = search needs
 returns-2 : tie.Need-returns-2
 returns-2 c =
     let x = c .before .before .before .before .before .before .before .before .before .before .before .before .before .before .before .before in
-    (bank-some (textAt (x .args .number) (x .args .i) (unhex (x .args .line .now))) (text-some (x .args .number) (x .args .i) (x .args .line .now) _ _ (c .before .before .before .before .before .before .before .before .before .before .before .before .before .frame-of .ensures) (c .before .before .before .before .before .before .before .before .before .before .before .before .text-part .ensures) (c .before .before .before .before .before .before .before .before .before .before .if1 .left)) (wrote-then _ _ (c .before .before .before .before .before .before .before .put-behind .ensures .0) (c .before .before .put2 .ensures)), omega arith)
+    (bank-some (textAt (x .args .number) (x .args .i) (unhex (x .args .line .now))) (text-some (x .args .number) (x .args .i) (x .args .line .now) _ _ (c .before .before .before .before .before .before .before .before .before .before .before .before .before .frame-of .ensures) (c .before .before .before .before .before .before .before .before .before .before .before .before .text-part .ensures) (c .before .before .before .before .before .before .before .before .before .before .if1 .left)) (wrote-then _ _ (c .before .before .before .before .before .before .before .put-part-behind .ensures .0) (c .before .before .put2 .ensures)), omega arith)
 
 same-length-2 : tie.Need-same-length-2
 same-length-2 c = returns-2 c .0 .same
@@ -60,8 +62,8 @@ put-bank-spec =
     put-requires
     same-length
     returns
-    slice-aggregate-put-behind
-    put-behind-requires
+    slice-aggregate-put-part-behind
+    put-part-behind-requires
     slice-aggregate-put-2
     put-requires-2
     same-length-2

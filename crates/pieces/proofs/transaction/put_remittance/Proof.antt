@@ -1,7 +1,7 @@
 -- `pieces::transaction::put_remittance` meets its contract: the text is empty where its part is.
 use Rattle.put.proofs.Writes.{wrote-then}
 use Rattle.put.proofs.Writes.{wrote-nil}
-use Rattle.pieces.proofs.Shorts.{text-has, text-none, text-some}
+use Rattle.pieces.proofs.Shorts.{text-has, text-told, text-none, text-some}
 use Rattle.pieces.proofs.Choices.{remittance-none, remittance-some}
 use Rattle.pieces.specs.Texts.{textAt}
 use Rattle.frames.specs.Hex.{unhex}
@@ -22,11 +22,13 @@ returns c =
     let x = c .before .before .before .before .before .before in
     (remittance-none (textAt 2 7 (unhex (x .args .line .now))) (text-none 2 7 (x .args .line .now) _ _ (c .before .before .before .frame-of .ensures) (c .before .before .text-part .ensures) (c .if1 .taken)) (wrote-nil _ _), omega arith)
 
-slice-aggregate-put-behind : tie.Need-slice-aggregate-put-behind
-slice-aggregate-put-behind c = refl
+slice-aggregate-put-part-behind : tie.Need-slice-aggregate-put-part-behind
+slice-aggregate-put-part-behind c = refl
 
-put-behind-requires : tie.Need-put-behind-requires
-put-behind-requires c κs = search needs
+put-part-behind-requires : tie.Need-put-part-behind-requires
+put-part-behind-requires c κs =
+    let x = c .before .before .before .before .before .before .before .before in
+    (record { is = x .pre .0; there = omega arith }, (text-told 2 7 (x .args .line .now) _ _ (c .before .before .before .before .before .frame-of .ensures) (c .before .before .before .before .text-part .ensures), search needs))
 
 slice-aggregate-put : tie.Need-slice-aggregate-put
 slice-aggregate-put c = refl
@@ -37,7 +39,7 @@ put-requires c κs = search needs
 returns-2 : tie.Need-returns-2
 returns-2 c =
     let x = c .before .before .before .before .before .before .before .before .before .before .before .before .before .before .before .before in
-    (remittance-some (textAt 2 7 (unhex (x .args .line .now))) (text-some 2 7 (x .args .line .now) _ _ (c .before .before .before .before .before .before .before .before .before .before .before .before .before .frame-of .ensures) (c .before .before .before .before .before .before .before .before .before .before .before .before .text-part .ensures) (c .before .before .before .before .before .before .before .before .before .before .if1 .left)) (wrote-then _ _ (c .before .before .before .before .before .before .before .put-behind .ensures .0) (c .before .before .put .ensures)), omega arith)
+    (remittance-some (textAt 2 7 (unhex (x .args .line .now))) (text-some 2 7 (x .args .line .now) _ _ (c .before .before .before .before .before .before .before .before .before .before .before .before .before .frame-of .ensures) (c .before .before .before .before .before .before .before .before .before .before .before .before .text-part .ensures) (c .before .before .before .before .before .before .before .before .before .before .if1 .left)) (wrote-then _ _ (c .before .before .before .before .before .before .before .put-part-behind .ensures .0) (c .before .before .put .ensures)), omega arith)
 
 same-length : tie.Need-same-length
 same-length c = returns-2 c .0 .same
@@ -49,8 +51,8 @@ put-remittance-spec =
     frame-of-requires
     text-part-requires
     returns
-    slice-aggregate-put-behind
-    put-behind-requires
+    slice-aggregate-put-part-behind
+    put-part-behind-requires
     slice-aggregate-put
     put-requires
     same-length
