@@ -60,7 +60,16 @@ fn check_beside(
     }
 }
 
-// The check of a short message, with room for the slips of 200 transactions.
+// The check of a brief message, with room for 21 transactions in 8 batches.
+fn check_brief(message: &[u8], slips: &mut [u64], rows: &mut [u64]) -> Checked
+    ensures { λ r. ⌜ Checks (now (message .entry)) (now (slips .entry)) (now (rows .entry)) r (now (slips .exit)) (now (rows .exit)) ⌝ }
+{
+    let mut a = [0u64; 252];
+    let mut b = [0u64; 64];
+    check_beside(message, &mut a, &mut b, slips, rows)
+}
+
+// The check of a short message, with room for 200 transactions.
 fn check_short(message: &[u8], slips: &mut [u64], rows: &mut [u64]) -> Checked
     ensures { λ r. ⌜ Checks (now (message .entry)) (now (slips .entry)) (now (rows .entry)) r (now (slips .exit)) (now (rows .exit)) ⌝ }
 {
@@ -78,10 +87,13 @@ fn check_long(message: &[u8], slips: &mut [u64], rows: &mut [u64]) -> Checked
     check_beside(message, &mut a, &mut b, slips, rows)
 }
 
-// The check: one pass over the message, and a second one only where a short message has more transactions than fit beside it.
+// The check: one pass over the message, and a second one only where a brief or short message has more transactions or batches than fit beside it.
 pub fn check(message: &[u8], slips: &mut [u64], rows: &mut [u64]) -> Checked
     ensures { λ r. ⌜ Checks (now (message .entry)) (now (slips .entry)) (now (rows .entry)) r (now (slips .exit)) (now (rows .exit)) ⌝ }
 {
+    if message.len() <= 8192 {
+        return check_brief(message, slips, rows);
+    }
     if message.len() <= 65536 {
         return check_short(message, slips, rows);
     }
