@@ -21,8 +21,8 @@ use Rattle.tree.specs.Parts as part
 use Rattle.message.specs.declared.Told.{Told}
 use Rattle.message.specs.Message as said
 use Rattle.message.specs.Verdict.{totalsOf}
-use Rattle.checking.specs.Check.{saidBy}
-use Rattle.checking.specs.Demand2.{Agrees, AllAgree, InProfile}
+use Rattle.checked.specs.Check.{saidBy}
+use Rattle.checked.specs.Demand2.{Agrees, AllAgree, InProfile}
 use Rattle.listed.specs.Listed.{Terms, Collection}
 use Rattle.carries.specs.Carried.{termsFrom, collectionFrom, carriedIn, carriedBy}
 use Rattle.carries.specs.Contents.{contents, contentOf, parts, all, the, carriedOf, collectionsIn, ProfileIn, Agreed, cents, BatchAgreed, AgreedIn}

@@ -17,7 +17,7 @@ use Rattle.tree.specs.Pain008.{Document, declaration}
 use Rattle.tree.specs.Parts as part
 use Rattle.message.specs.declared.Told.{Told}
 use Rattle.message.specs.Message.{is, all, parts, before, batchOf, batchesOf}
-use Rattle.checking.specs.Check.{saidBy}
+use Rattle.checked.specs.Check.{saidBy}
 use Rattle.bundle.specs.Bundle.{Fits, need}
 use Rattle.bundle.proofs.Fewest.{fewest}
 use Rattle.listed.specs.Listed.{Terms, sameTerms, Collection}

@@ -13,7 +13,7 @@ use Rattle.tree.specs.Pain008.{Document, declaration}
 use Rattle.tree.specs.Parts as part
 use Rattle.message.specs.declared.Told.{Told}
 use Rattle.message.specs.Message as said
-use Rattle.checking.specs.Check.{saidBy}
+use Rattle.checked.specs.Check.{saidBy}
 use Rattle.listed.specs.Listed.{Terms, Collection}
 use Rattle.carries.specs.Carried.{textAt, termsBy, collectionBy, termsFrom, collectionFrom, carriedIn, carriedBy}
 use Rattle.carries.specs.Contents.{Content, contents, contentOf, is, before, parts, all, lastOr, the, worth, textOf, termsIn, collectionIn, collectionsIn, carriedOf}

@@ -20,8 +20,8 @@ use Rattle.message.specs.Message.{batchesOf}
 use Rattle.message.specs.Verdict.{totalsOf}
 use Rattle.answer.specs.declared.Checked.{Checked}
 use Rattle.answer.specs.declared.Checked.the-variants.{Accepted}
-use Rattle.checking.specs.Check.{saidBy, Checks}
-use Rattle.checking.proofs.Demand2.{demand-2-accepts}
+use Rattle.checked.specs.Check.{saidBy, Checks}
+use Rattle.checked.proofs.Demand2.{demand-2-accepts}
 use Rattle.daylist.specs.declared.JudgedList.the-variants.{Good}
 use Rattle.daylist.specs.Stages.{judgedList}
 use Rattle.daylist.proofs.Goods.{good-list}

@@ -24,8 +24,8 @@ use Rattle.text.specs.Rules.{good, told, identifier, count, sum, amount, scheme
 use Rattle.tree.specs.Form.{message}
 use Rattle.tree.specs.Pain008.{declaration}
 use Rattle.tree.specs.Parts as part
-use Rattle.checking.specs.Check.{saidBy}
-use Rattle.checking.specs.Demand2.{AllAgree, InProfile}
+use Rattle.checked.specs.Check.{saidBy}
+use Rattle.checked.specs.Demand2.{AllAgree, InProfile}
 use Rattle.bundle.specs.Bundle.{number}
 use Rattle.listed.specs.Listed.{Collection, Creditor}
 use Rattle.listed.specs.Good.{emptyOr, GoodTerms, GoodCollection, GoodCreditor}

@@ -19,8 +19,8 @@ use Rattle.tree.specs.Pain008.{Document, declaration}
 use Rattle.tree.specs.Parts as part
 use Rattle.message.specs.declared.Told.{Told}
 use Rattle.message.specs.Message.{parts, the, worthOf}
-use Rattle.checking.specs.Check.{saidBy}
-use Rattle.checking.specs.Demand2.{Belongs, AllAgree}
+use Rattle.checked.specs.Check.{saidBy}
+use Rattle.checked.specs.Demand2.{Belongs, AllAgree}
 use Rattle.bundle.specs.Bundle.{Same}
 use Rattle.listed.specs.Listed.{Terms, Collection}
 

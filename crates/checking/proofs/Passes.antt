@@ -43,11 +43,11 @@ use Rattle.reader.specs.declared.Outcome.{Outcome}
 use Rattle.reader.specs.declared.Outcome.the-variants.{TooLong as LongOne, Stuck as StuckAt, Read as WasRead}
 use Rattle.reader.specs.Walk as walk
 use Rattle.reader.specs.Read.{ReadRight, Bounded}
-use Rattle.checking.specs.Check.{saidBy, roomOf, Checks}
-use Rattle.checking.specs.Demand2.{Enough}
+use Rattle.checked.specs.Check.{saidBy, roomOf, Checks}
+use Rattle.checked.specs.Demand2.{Enough}
 use Rattle.checking.specs.Inner.{Verdicts, Fills}
-use Rattle.checking.proofs.Accepts.{accepted-only}
-use Rattle.checking.proofs.Outcome.{same-said}
+use Rattle.checked.proofs.Accepts.{accepted-only}
+use Rattle.checked.proofs.Outcome.{same-said}
 
 carried : (s : Bytes) (c : Carried) (es : List Event) → walk.fold Carried (stepOf s) s c es ≡ fold carryStep c (tell s es)
 unfolding stepOf

@@ -16,8 +16,8 @@ use Rattle.message.specs.Verdict.{Room, verdictOf, slipsOf, rowsOf}
 use Rattle.answer.specs.declared.Checked.{Checked}
 use Rattle.answer.specs.declared.Checked.the-variants.{Refused}
 use Rattle.answer.specs.Answer.{verdictSaid}
-use Rattle.checking.specs.Check.{saidBy, roomOf}
-use Rattle.checking.specs.Demand2.{Enough}
+use Rattle.checked.specs.Check.{saidBy, roomOf}
+use Rattle.checked.specs.Demand2.{Enough}
 
 unfoldable pub Verdicts : Bytes → Room → Checked → Type 0
 Verdicts s room r =

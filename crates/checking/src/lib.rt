@@ -4,7 +4,7 @@ ghost use Prim.Native.Nat.{_≤_};
 ghost use lib.ListN.{length, take};
 ghost use Rattle.laws.specs.Put.{putAt};
 ghost use Rattle.message.specs.Verdict.{Room};
-ghost use Rattle.checking.specs.Check.{Checks};
+ghost use Rattle.checked.specs.Check.{Checks};
 ghost use Rattle.checking.specs.Inner.{Verdicts, Fills};
 use answer::Checked;
 use profile::Refusal;

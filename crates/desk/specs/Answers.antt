@@ -1,7 +1,7 @@
 -- WHAT THE FUNCTIONS OF THE DESK ANSWER, in numbers. To be believed; definitions only.
 --   checkedNumbers r         number 0 and the totals of an accepted message; the number and place of a refusal, and totals 0
 --   writtenNumbers r         number 0 and the length of a written message; the number and place of a refusal
---   DeskChecks s slips rows r slips′ rows′   the check's promise (checking/specs/Check), its answer told in numbers
+--   DeskChecks s slips rows r slips′ rows′   the check's promise (checked/specs/Check), its answer told in numbers
 use Prim.Native.Nat.{ℕ}
 use mathlib.Core.List.{List}
 use mathlib.Core.Path.{_≡_}
@@ -9,7 +9,7 @@ use Rattle.laws.specs.Bytes.{Bytes}
 use Rattle.profile.specs.Refusals.{numberOf, placeOf, listNumberOf, listPlaceOf}
 use Rattle.answer.specs.declared.Checked.{Checked}
 use Rattle.answer.specs.declared.Checked.the-variants.{Accepted, Refused}
-use Rattle.checking.specs.Check.{Checks}
+use Rattle.checked.specs.Check.{Checks}
 use Rattle.write.specs.declared.Written.{Written}
 use Rattle.write.specs.declared.Written.the-variants.{Length, Refused as Unwritten}
 use Rattle.desk.specs.declared.DeskChecked.{DeskChecked}

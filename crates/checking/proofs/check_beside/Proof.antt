@@ -1,7 +1,7 @@
 -- `checking::check_beside` meets its contract: refused, copied, or filled by a second pass.
 use native.Mathlib.Omega.{arith}
 use mathlib.Core.Path.{subst, refl}
-use Rattle.checking.specs.Check.{roomOf}
+use Rattle.checked.specs.Check.{roomOf}
 use Rattle.checking.specs.Inner.{Verdicts}
 use Rattle.checking.proofs.Passes.{copied, accepted-room, check-refused, check-accepted, check-copied}
 use borrow.Author.Needs.{needs}

@@ -20,7 +20,7 @@ use Rattle.tree.specs.Parts as part
 use Rattle.message.specs.declared.Told.{Told}
 use Rattle.message.specs.Message.{all, the, batchesOf, worth, count, sum}
 use Rattle.message.specs.Verdict.{Room}
-use Rattle.checking.specs.Check.{saidBy}
+use Rattle.checked.specs.Check.{saidBy}
 
 abbrev pub Agrees : Option Told → ℕ → Type 0
 Agrees none n = Unit {0}

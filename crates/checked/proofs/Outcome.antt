@@ -1,11 +1,13 @@
--- ANY TWO OUTCOMES THAT THE PROMISE OF THE CHECK ALLOWS COINCIDE.
+-- ANY TWO OUTCOMES THAT THE PROMISE OF THE CHECK ALLOWS COINCIDE, and a refusal changes nothing.
 --   one-outcome
+--   refusal-keeps     a refusal leaves both tables as they were
 use Prim.Native.Nat.{ℕ}
 use native.Mathlib.Omega.{arith}
 use mathlib.Core.List.{List}
 use mathlib.Core.Path.{_≡_, ap, sym, _∙_}
 use mathlib.Core.Logic.{_⊎_, inl, inr}
 use Rattle.laws.specs.Bytes.{Bytes}
+use Rattle.profile.specs.declared.Refusal.{Refusal}
 use Rattle.profile.specs.declared.Refusal.the-variants.{NotOfTheForm}
 use Rattle.tree.specs.declared.Event.{Event}
 use Rattle.tree.specs.Form.{Message, message, messageEvents}
@@ -17,7 +19,7 @@ use Rattle.message.specs.Verdict.{verdictOf, slipsOf, rowsOf}
 use Rattle.answer.specs.declared.Checked.{Checked}
 use Rattle.answer.specs.declared.Checked.the-variants.{Accepted, Refused}
 use Rattle.answer.specs.Answer.{verdictSaid}
-use Rattle.checking.specs.Check.{saidBy, roomOf, after, Long, Stuck, Judged, Checks}
+use Rattle.checked.specs.Check.{saidBy, roomOf, after, Long, Stuck, Judged, Checks}
 
 -- two messages of the same bytes say the same
 pub same-said : (m n : Message Document) (s : Bytes) → message declaration m ≡ s → message declaration n ≡ s → saidBy m ≡ saidBy n
@@ -65,3 +67,12 @@ module _ (s : Bytes) (slips rows : List ℕ) (r r₂ : Checked) (a b a₂ b₂ :
 
   pub one-outcome : Checks s slips rows r a b → Checks s slips rows r₂ a₂ b₂ → Same
   one-outcome p q = cases (p .case) (q .case)
+
+module _ (s : Bytes) (slips rows : List ℕ) (f : Refusal) (a b : List ℕ) where
+  kept : Long s slips rows (Refused f) a b ⊎ (Stuck s slips rows (Refused f) a b ⊎ Judged s slips rows (Refused f) a b) → (a ≡ slips) × (b ≡ rows)
+  kept (inl p) = (p .slips-kept, p .rows-kept)
+  kept (inr (inl p)) = (p .slips-kept, p .rows-kept)
+  kept (inr (inr p)) = (p .slips-are, p .rows-are)
+
+  pub refusal-keeps : Checks s slips rows (Refused f) a b → (a ≡ slips) × (b ≡ rows)
+  refusal-keeps p = kept (p .case)

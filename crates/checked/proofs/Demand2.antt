@@ -16,10 +16,10 @@ use Rattle.message.specs.Verdict.{accepted, totalsOf, verdictOf}
 use Rattle.answer.specs.declared.Checked.{Checked}
 use Rattle.answer.specs.declared.Checked.the-variants.{Accepted, Refused}
 use Rattle.answer.specs.Answer.{verdictSaid}
-use Rattle.checking.specs.Check.{saidBy, roomOf, Long, Stuck, Judged, Checks}
-use Rattle.checking.specs.Demand2.{AllAgree, Enough, Belongs}
-use Rattle.checking.proofs.Accepts.{accepts, accepted-only}
-use Rattle.checking.proofs.Outcome.{same-said}
+use Rattle.checked.specs.Check.{saidBy, roomOf, Long, Stuck, Judged, Checks}
+use Rattle.checked.specs.Demand2.{AllAgree, Enough, Belongs}
+use Rattle.checked.proofs.Accepts.{accepts, accepted-only}
+use Rattle.checked.proofs.Outcome.{same-said}
 
 accepted-said : (r : Checked) (t : Totals) → verdictSaid r ≡ accepted t → r ≡ Accepted t
 accepted-said (Accepted u) t e = cc

@@ -25,7 +25,7 @@ use Rattle.message.specs.declared.Told.{Told}
 use Rattle.message.specs.Message.{Batch, all, the, batchesOf, worth, count, sum}
 use Rattle.message.specs.Verdict.{Room, accepted, verdict, at, first, orElse, unless, placeAfter, broken, firstBroken, differs, batchFault, stages, totalsOf, verdictOf}
 use Rattle.answer.proofs.Answers.{room-yes}
-use Rattle.checking.specs.Demand2.{Agrees, AllAgree, InProfile, Enough}
+use Rattle.checked.specs.Demand2.{Agrees, AllAgree, InProfile, Enough}
 
 -- ─── none found ───
 
