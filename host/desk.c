@@ -48,6 +48,7 @@ struct request {
 };
 
 static uint8_t input[DESK_BYTES + 1], written[DESK_BYTES];
+static struct stat input_file;
 static uint64_t slips[DESK_SLIPS], rows[DESK_ROWS];
 
 /* ─── one line to standard error ─── */
@@ -64,13 +65,13 @@ static int trouble(const char *doing, const char *name, const char *why) {
 
 /* ─── files ─── */
 
-/* At most one byte above the limit. */
+/* At most one byte above the limit; `input_file` tells which file it was. */
 static int read_input(const char *name, size_t *length) {
     int standard = strcmp(name, "-") == 0;
     FILE *file = standard ? stdin : fopen(name, "rb");
     if (!file) return trouble("read", name, strerror(errno));
     *length = fread(input, 1, sizeof input, file);
-    int failed = ferror(file), why = errno;
+    int failed = ferror(file) || fstat(fileno(file), &input_file) != 0, why = errno;
     if (!standard) fclose(file);
     return failed ? trouble("read", standard ? "standard input" : name, strerror(why)) : DONE;
 }
@@ -87,7 +88,10 @@ static int replace_file(const char *name, const uint8_t *bytes, size_t length) {
     struct stat about;
     FILE *file;
     int made = -1;
-    if (lstat(name, &about) == 0 && !S_ISREG(about.st_mode)) return trouble("write", name, "it is there, and is no regular file");
+    if (lstat(name, &about) == 0) {
+        if (!S_ISREG(about.st_mode)) return trouble("write", name, "it is there, and is no regular file");
+        if (about.st_dev == input_file.st_dev && about.st_ino == input_file.st_ino) return trouble("write", name, "it is the list itself");
+    }
     for (int i = 0; i < 100 && made < 0; i++) {
         int n = snprintf(beside, sizeof beside, "%s.%ld-%d", name, (long)getpid(), i);
         if (n < 0 || (size_t)n >= sizeof beside) return trouble("write", name, "its name is too long");
@@ -217,7 +221,6 @@ static int read_request(int argc, char **argv, int writes, struct request *reque
     }
     if (!request->input) return usage(writes ? "write needs a day list" : "check needs a file", 0);
     if (writes && !request->has_ceiling) return usage("write needs --ceiling N", 0);
-    if (request->output && strcmp(request->output, request->input) == 0) return usage("the list and -o are the same file,", request->output);
     return DONE;
 }
 

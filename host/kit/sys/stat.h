@@ -1,10 +1,11 @@
 #ifndef KIT_SYS_STAT_H
 #define KIT_SYS_STAT_H
 struct stat {
-    unsigned long before[3];
+    unsigned long st_dev, st_ino, st_nlink;
     unsigned st_mode;
     unsigned char behind[116];
 };
 #define S_ISREG(mode) (((mode)&0170000) == 0100000)
+int fstat(int, struct stat *);
 int lstat(const char *, struct stat *);
 #endif
