@@ -19,7 +19,6 @@ typedef struct desk_written writer(const uint8_t *list, size_t list_len, uint64_
 checker plain_check;
 writer plain_write;
 
-
 enum { LIBRARY, PLAIN, IMPLEMENTATIONS, PASSES = 7, ROUNDS = 9, BYTES_A_ROUND = 1 << 18 };
 
 /* ---- The jobs */

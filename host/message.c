@@ -107,31 +107,33 @@ static void print_found(FILE *to, const uint8_t *message, size_t length, const s
     fputs(".\n", to);
 }
 
+/* Tells the tag where it may stand, behind as many as were told before; answers how many are told then. */
+static size_t print_if_allowed(FILE *to, const uint8_t *message, const struct spot *spot, const char *tag, size_t told) {
+    if (!may_stand(message, spot->tag, tag)) return told;
+    fprintf(to, "%s%s", told == 0 ? "There may stand: " : " or ", tag);
+    return told + 1;
+}
+
+static const char *attribute_of(const char *name) {
+    if (strcmp(name, "Document") == 0) return " xmlns=\"urn:iso:std:iso:20022:tech:xsd:pain.008.001.08\"";
+    return strcmp(name, "InstdAmt") == 0 ? " Ccy=\"EUR\"" : "";
+}
+
 static void print_allowed(FILE *to, const uint8_t *message, const struct spot *spot) {
-    static const char declaration[] = "<?xml version=\"1.0\" encoding=\"UTF-8\"?>", document[] = "<Document xmlns=\"urn:iso:std:iso:20022:tech:xsd:pain.008.001.08\">";
-    char tag[64];
-    const char *before = "There may stand: ";
-    if (spot->tag + sizeof document > DESK_BYTES) return;
-    for (size_t i = 0; i < ELEMENTS_COUNT + 2; i++) {
-        const char *one = tag;
-        if (i == 0) {
-            one = declaration;
-        } else if (i > ELEMENTS_COUNT) {
-            if (spot->depth == 0) break;
-            snprintf(tag, sizeof tag, "</%.*s>", (int)spot->open[spot->depth - 1].length, (const char *)spot->open[spot->depth - 1].name);
-        } else if (i > 1 && strcmp(ELEMENTS[i - 1].name, ELEMENTS[i - 2].name) == 0) {
-            continue;
-        } else if (strcmp(ELEMENTS[i - 1].name, "Document") == 0) {
-            one = document;
-        } else {
-            snprintf(tag, sizeof tag, strcmp(ELEMENTS[i - 1].name, "InstdAmt") == 0 ? "<%s Ccy=\"EUR\">" : "<%s>", ELEMENTS[i - 1].name);
-        }
-        if (may_stand(message, spot->tag, one)) {
-            fprintf(to, "%s%s", before, one);
-            before = " or ";
-        }
+    char tag[80];
+    if (spot->tag + sizeof tag > DESK_BYTES) return;
+    size_t told = print_if_allowed(to, message, spot, "<?xml version=\"1.0\" encoding=\"UTF-8\"?>", 0);
+    for (size_t i = 0; i < ELEMENTS_COUNT; i++) {
+        const char *name = ELEMENTS[i].name;
+        if (i > 0 && strcmp(name, ELEMENTS[i - 1].name) == 0) continue;
+        snprintf(tag, sizeof tag, "<%s%s>", name, attribute_of(name));
+        told = print_if_allowed(to, message, spot, tag, told);
     }
-    fputs(before[1] == 'o' ? ".\n" : "There may stand: nothing but white space.\n", to);
+    if (spot->depth > 0) {
+        snprintf(tag, sizeof tag, "</%.*s>", (int)spot->open[spot->depth - 1].length, (const char *)spot->open[spot->depth - 1].name);
+        told = print_if_allowed(to, message, spot, tag, told);
+    }
+    fputs(told > 0 ? ".\n" : "There may stand: nothing but white space.\n", to);
 }
 
 /* ─── the answers ─── */
