@@ -82,35 +82,42 @@ static int flushed(FILE *to) {
     return trouble("write", to == stdout ? "standard output" : "standard error", strerror(errno));
 }
 
-/* The file `name` gets these bytes, all of them or none: they are written beside it, and then take its name. */
+/* A new file beside `name`, whose own name is then in `beside`; below 0 where none can be made. */
+static int make_beside(const char *name, unsigned rights, char *beside, size_t room) {
+    int made = -1;
+    for (int i = 0; i < 100 && made < 0; i++) {
+        int n = snprintf(beside, room, "%s.%ld-%d", name, (long)getpid(), i);
+        if (n < 0 || (size_t)n >= room) errno = ENAMETOOLONG;
+        else made = open(beside, O_WRONLY | O_CREAT | O_EXCL, rights);
+        if (made < 0 && errno != EEXIST) break;
+    }
+    return made;
+}
+
+static int put_bytes(int file, const uint8_t *bytes, size_t length) {
+    while (length > 0) {
+        ssize_t n = write(file, bytes, length);
+        if (n < 0) return 0;
+        bytes += n;
+        length -= (size_t)n;
+    }
+    return fsync(file) == 0;
+}
+
+/* The file `name` gets these bytes, all of them or none: they are written beside it, and then take its name. No one may read it who might not read an older one. */
 static int replace_file(const char *name, const uint8_t *bytes, size_t length) {
     char beside[4096];
     struct stat about;
-    FILE *file;
-    int made = -1;
+    unsigned rights = 0666;
     if (lstat(name, &about) == 0) {
         if (!S_ISREG(about.st_mode)) return trouble("write", name, "it is there, and is no regular file");
         if (about.st_dev == input_file.st_dev && about.st_ino == input_file.st_ino) return trouble("write", name, "it is the list itself");
+        rights = about.st_mode & 0777;
     }
-    for (int i = 0; i < 100 && made < 0; i++) {
-        int n = snprintf(beside, sizeof beside, "%s.%ld-%d", name, (long)getpid(), i);
-        if (n < 0 || (size_t)n >= sizeof beside) return trouble("write", name, "its name is too long");
-        made = open(beside, O_WRONLY | O_CREAT | O_EXCL, 0666);
-        if (made < 0 && errno != EEXIST) break;
-    }
+    int made = make_beside(name, rights, beside, sizeof beside);
     if (made < 0) return trouble("write", name, strerror(errno));
-    file = fdopen(made, "wb");
-    int good = file && fwrite(bytes, 1, length, file) == length && fflush(file) == 0 && fsync(made) == 0;
+    if (put_bytes(made, bytes, length) && close(made) == 0 && rename(beside, name) == 0) return DONE;
     int why = errno;
-    if (file ? fclose(file) != 0 : close(made) != 0) {
-        if (good) why = errno;
-        good = 0;
-    }
-    if (good && rename(beside, name) != 0) {
-        why = errno;
-        good = 0;
-    }
-    if (good) return DONE;
     unlink(beside);
     return trouble("write", name, strerror(why));
 }

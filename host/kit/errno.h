@@ -3,4 +3,5 @@
 int *__errno_location(void);
 #define errno (*__errno_location())
 #define EEXIST 17
+#define ENAMETOOLONG 36
 #endif

@@ -4,7 +4,6 @@
 typedef struct kit_file FILE;
 extern FILE *stdin, *stdout, *stderr;
 FILE *fopen(const char *, const char *);
-FILE *fdopen(int, const char *);
 int fileno(FILE *);
 int fclose(FILE *);
 int fflush(FILE *);
