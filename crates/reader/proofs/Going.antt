@@ -30,10 +30,10 @@ use Rattle.state.specs.declared.State.{State}
 use Rattle.state.specs.Fill.{Carried, stepOf, Within}
 use Rattle.state.proofs.Bounds.{within-more}
 use Rattle.kept.specs.Kept.{stateOf}
-use Rattle.table.specs.declared.Element.{Element}
 use Rattle.table.specs.declared.Row.{Row}
 use Rattle.reader.specs.declared.walk.Reading.{Reading}
 use Rattle.reader.specs.declared.walk.Reading.the-variants.{Ended, Stuck}
+use Rattle.tags.specs.Tags as tags
 use Rattle.table.specs.Table as table
 use Rattle.table.specs.Held.{holdsElem, holdsItems}
 use Rattle.reader.specs.Walk.{At, ended, halts, childrenAt, elementAt, othersAt, stepAt}
@@ -41,7 +41,8 @@ use Rattle.reader.specs.Told.{told, closed, pick, Fine, Ready}
 use Rattle.reader.specs.Read.{carried}
 use Rattle.scan.proofs.Scans.{common-le, common-in}
 use Rattle.reader.proofs.Walks.{children-is}
-use Rattle.table.proofs.Held.{Held, held, HeldRow, held-row, held-none, placed, open-length, close-length}
+use Rattle.tags.proofs.Placed.{close-placed}
+use Rattle.table.proofs.Held.{Held, held, HeldRow, held-row, held-none}
 
 -- ─── a word at a place ───
 
@@ -127,7 +128,7 @@ module _ (s : Bytes) where
     pub far-is : far′ ≡ at + gap
     pub goes : r₀ ≡ stepFrom a c at (far gap (choose left (closing c) (drop at s)))
 
-  pub going-start : (e : ℕ) (c : Elem) (k from : ℕ) (a : Carried) → T (holdsElem e c) → k ≡ table.elementAt e .first → Going (kidsFrom a c from) c k from from a
+  pub going-start : (e : ℕ) (c : Elem) (k from : ℕ) (a : Carried) → T (holdsElem e c) → k ≡ table.firstRow e → Going (kidsFrom a c from) c k from from a
   going-start e c k from a t q = record {
     left = items c;
     hold = subst (λ (j : ℕ). T (holdsItems j (items c))) (sym q) (held e c t .below);
@@ -138,7 +139,7 @@ module _ (s : Bytes) where
 
   -- at the row k, whose element is tried at `at`
   module _ (r₀ : Reads) (c : Elem) (k at far′ : ℕ) (a : Carried) (r : Row) (n l : ℕ) (small : k < table.rowsEnd) (q : r ≡ table.rowAt k)
-      (o : n ≡ common (drop at s) (table.openTag (table.elementAt (r .element)))) (w : l ≡ table.elementAt (r .element) .close - table.elementAt (r .element) .«open») where
+      (o : n ≡ common (drop at s) (tags.openTag (r .element))) (w : l ≡ length (tags.openTag (r .element))) where
     -- what the rows hold there
     pub record Tried (g : Going r₀ c k at far′ a) : Type 0 where
       pub how : How
@@ -162,7 +163,7 @@ module _ (s : Bytes) where
     agreed g = ap (common (drop at s)) (sym (kept g .open-tag)) ∙ sym o
 
     len : (g : Going r₀ c k at far′ a) → length (opening (tried g .elem)) ≡ l
-    len g = ap length (sym (kept g .open-tag)) ∙ open-length (table.elementAt (r .element)) (placed (r .element) (table.elementAt (r .element)) (kept g .small) refl) ∙ sym w
+    len g = ap length (sym (kept g .open-tag)) ∙ sym w
 
     missed : (g : Going r₀ c k at far′ a) → n < l → eat (opening (tried g .elem)) (drop at s) ≡ miss n
     missed g b = eat-part (opening (tried g .elem)) (drop at s) (omega (arith, agreed g, len g)) ∙ ap miss (agreed g)
@@ -240,20 +241,20 @@ module _ (s : Bytes) where
   close-whole : (a : Carried) (c : Elem) (at m : ℕ) (r : Bytes) (x : Eat) → x ≡ ate r → stepFrom a c at (far m (closes x)) ≡ ended (at + length (closing c)) a
   close-whole a c at m r x e = ap (λ (z : Eat). stepFrom a c at (far m (closes z))) e
 
-  closed-part : (e far′ at : ℕ) → (let t = table.closeTag (table.elementAt e) in common (drop at s) t < length t)
-      → closed s e far′ at ≡ Stuck (max far′ (at + common (drop at s) (table.closeTag (table.elementAt e))))
+  closed-part : (e far′ at : ℕ) → (let t = tags.closeTag e in common (drop at s) t < length t)
+      → closed s e far′ at ≡ Stuck (max far′ (at + common (drop at s) (tags.closeTag e)))
   unfolding closed
   closed-part e far′ at l = rw (lt-ltb _ _ l)
 
-  closed-whole : (e far′ at : ℕ) → (let t = table.closeTag (table.elementAt e) in length t ≤ common (drop at s) t)
-      → closed s e far′ at ≡ Ended (at + common (drop at s) (table.closeTag (table.elementAt e)))
+  closed-whole : (e far′ at : ℕ) → (let t = tags.closeTag e in length t ≤ common (drop at s) t)
+      → closed s e far′ at ≡ Ended (at + common (drop at s) (tags.closeTag e))
   unfolding closed
   closed-whole e far′ at l = rw (le-ltb _ _ l)
 
   pub going-close : (r₀ : Reads) (e : ℕ) (c : Elem) (k at far′ : ℕ) (a : Carried) → T (holdsElem e c) → table.rowsEnd ≤ k → Going r₀ c k at far′ a → told s (closed s e far′ at) a ≡ r₀
   going-close r₀ e c k at far′ a t l g = go (g .left) (g .hold) refl
     where
-      tag : table.closeTag (table.elementAt e) ≡ closing c
+      tag : tags.closeTag e ≡ closing c
       tag = held e c t .close-tag
 
       n : ℕ
@@ -281,16 +282,14 @@ module _ (s : Bytes) where
 
   -- ─── an element ───
 
-  pub element-read : (e at start end pt : ℕ) (kd : Kind) (a b : Carried) (o : Reads) → e < table.elementCount → pt ≡ table.elementAt e .part → kd ≡ table.elementAt e .kind
-      → start ≡ at + (table.elementAt e .close - table.elementAt e .«open») → end ≡ start + span (inRun kd) (drop start s)
+  pub element-read : (e at start end pt : ℕ) (kd : Kind) (a b : Carried) (o : Reads) → pt ≡ part (tags.elementAt e) → kd ≡ kind (tags.elementAt e)
+      → start ≡ at + length (tags.openTag e) → end ≡ start + span (inRun kd) (drop start s)
       → stepOf s a (event pt kd at start (end - start)) ≡ b
       → ((c : Elem) → T (holdsElem e c) → o ≡ kidsFrom b c end)
       → (c : Elem) → T (holdsElem e c) → o ≡ oneAt a c at
-  element-read e at start end pt kd a b o h pt-is kd-is u w k ih c t =
+  element-read e at start end pt kd a b o pt-is kd-is u w k ih c t =
       let g : Held e c = held e c t in
-      let x : Element = table.elementAt e in
-      let len : length (opening c) ≡ x .close - x .«open» = ap length (sym (g .open-tag)) ∙ open-length x (placed e x h refl) in
-      let here : start ≡ at + length (opening c) = u ∙ ap (λ (j : ℕ). at + j) (sym len) in
+      let here : start ≡ at + length (opening c) = u ∙ ap (λ (t : Bytes). at + length t) (g .open-tag) in
       let kd-c : kd ≡ kind c = kd-is ∙ g .is-kind in
       let pt-c : pt ≡ part c = pt-is ∙ g .plays in
       let n : ℕ = span (inRun (kind c)) (drop (at + length (opening c)) s) in
@@ -323,18 +322,17 @@ pub fine-ended : (s : Bytes) (at : ℕ) (x : Reading) (p : ℕ) (st : State) →
 fine-ended s at x p st e w = subst (λ (r : Reading). Fine s at r st) e w
 
 -- a closing tag that was read lies behind its place
-pub closed-fine : (s : Bytes) (e far′ at : ℕ) (st : State) → e < table.elementCount → at ≤ length s → Within at st → Fine s at (closed s e far′ at) st
+pub closed-fine : (s : Bytes) (e far′ at : ℕ) (st : State) → e < tags.elementCount → at ≤ length s → Within at st → Fine s at (closed s e far′ at) st
 unfolding closed
 closed-fine s e far′ at st h l w =
-    let t : Bytes = table.closeTag (table.elementAt e) in
+    let t : Bytes = tags.closeTag e in
     let n : ℕ = common (drop at s) t in
-    let p = placed e (table.elementAt e) h refl in
-    go n (ltb n (length t)) (common-in s t at n l refl .0) (λ f. omega (arith, close-length (table.elementAt e) p, ltb-false n (length t) f))
+    go n (ltb n (length t)) (common-in s t at n l refl .0) (λ f. omega (arith, close-placed e h .least, ltb-false n (length t) f))
   where
     go : (n : ℕ) (z : Bool) → at + n ≤ length s → (z ≡ false → 1 ≤ n) → Fine s at (pick z (Stuck (max far′ (at + n))) (Ended (at + n))) st
     go n true a b = tt
     go n false a b = (omega (arith, b refl), (a, within-more w (omega arith)))
 
 -- the opening tag has room
-pub room-is : (s : Bytes) (e at : ℕ) (kept : List ℕ) (l : ℕ) → Ready s e at kept → l ≡ table.elementAt e .close - table.elementAt e .«open» → at + l ≤ length s
+pub room-is : (s : Bytes) (e at : ℕ) (kept : List ℕ) (l : ℕ) → Ready s e at kept → l ≡ length (tags.openTag e) → at + l ≤ length s
 room-is s e at kept l r q = omega (arith, r .room)

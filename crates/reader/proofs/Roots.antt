@@ -28,8 +28,8 @@ use Rattle.reader.specs.declared.Outcome.the-variants.{TooLong, Stuck, R
 use Rattle.reader.specs.Walk.{At, ended, halts, fold, from, elementAt}
 use Rattle.reader.specs.Read.{ReadRight, Answers, Rooted}
 use Rattle.reader.proofs.Walks.{from-element}
-use Rattle.table.specs.Table as table
-use Rattle.table.proofs.Held.{document-held, held, placed, open-length}
+use Rattle.tags.specs.Tags as tags
+use Rattle.table.proofs.Held.{document-held, held}
 use Rattle.reader.specs.declared.walk.Reading.{Reading}
 use Rattle.reader.specs.declared.walk.Reading.the-variants.{Ended, Stuck as Halted}
 use Rattle.reader.specs.Told.{told}
@@ -165,8 +165,8 @@ read-is s a x Read b l e h =
 
 -- ─── the root's tag in the tables ───
 
-pub root-agrees : (s : Bytes) (at n : ℕ) → n ≡ common (drop at s) (table.openTag (table.elementAt 0)) → n ≡ common (drop at s) (opening Document)
+pub root-agrees : (s : Bytes) (at n : ℕ) → n ≡ common (drop at s) (tags.openTag 0) → n ≡ common (drop at s) (opening Document)
 root-agrees s at n e = e ∙ ap (common (drop at s)) (held 0 Document document-held .open-tag)
 
-pub root-length : (l : ℕ) → l ≡ table.elementAt 0 .close - table.elementAt 0 .«open» → length (opening Document) ≡ l
-root-length l e = ap length (sym (held 0 Document document-held .open-tag)) ∙ open-length (table.elementAt 0) (placed 0 (table.elementAt 0) (held 0 Document document-held .small) refl) ∙ sym e
+pub root-length : (l : ℕ) → l ≡ length (tags.openTag 0) → length (opening Document) ≡ l
+root-length l e = ap length (sym (held 0 Document document-held .open-tag)) ∙ sym e

@@ -3,7 +3,7 @@
 --   closed s e far at   the closing tag of the element e
 --   Ready, ReadyKids    the numbers are in range where an element, or a list of children, is read
 --   Fine s at r st      what was read lies behind the place, and the state st is then within bounds
-use Prim.Native.Nat.{ℕ, _+_, _-_, _<_, _≤_, max}
+use Prim.Native.Nat.{ℕ, _+_, _<_, _≤_, max}
 use mathlib.Core.Bool.{Bool, true, false}
 use mathlib.Core.List.{List}
 use mathlib.Core.Path.{_≡_}
@@ -17,7 +17,7 @@ use Rattle.state.specs.Fill.{Carried, stepOf, Within}
 use Rattle.kept.specs.Kept.{keptLength, stateOf}
 use Rattle.reader.specs.declared.walk.Reading.{Reading}
 use Rattle.reader.specs.declared.walk.Reading.the-variants.{Ended, Stuck}
-use Rattle.table.specs.Table as table
+use Rattle.tags.specs.Tags as tags
 use Rattle.reader.specs.Walk.{At, ended, halts}
 
 abbrev pub told : (s : Bytes) → Reading → Carried → At Carried (stepOf s) s
@@ -30,21 +30,21 @@ pick false a b = b
 
 unfoldable pub closed : Bytes → ℕ → ℕ → ℕ → Reading
 closed s e far at =
-    let t = table.closeTag (table.elementAt e) in
+    let t = tags.closeTag e in
     let n = common (drop at s) t in
     pick (ltb n (length t)) (Stuck (max far (at + n))) (Ended (at + n))
 
 -- the element e is one of the tables', its opening tag has room at `at`, and the row `kept` holds a state
 pub record Ready (s : Bytes) (e at : ℕ) (kept : List ℕ) : Type 0 where
   pub short : length s ≤ mostBytes
-  pub known : e < table.elementCount
-  pub room : at + (table.elementAt e .close - table.elementAt e .«open») ≤ length s
+  pub known : e < tags.elementCount
+  pub room : at + length (tags.openTag e) ≤ length s
   pub long : length kept ≡ keptLength
   pub bounds : Within at (stateOf kept)
 
 pub record ReadyKids (s : Bytes) (e from : ℕ) (kept : List ℕ) : Type 0 where
   pub short : length s ≤ mostBytes
-  pub known : e < table.elementCount
+  pub known : e < tags.elementCount
   pub room : from ≤ length s
   pub long : length kept ≡ keptLength
   pub bounds : Within from (stateOf kept)

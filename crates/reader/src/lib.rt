@@ -37,8 +37,8 @@ fn read_root(
     ensures exact { λ r. ⌜ Rooted (now (s .entry)) far from (carried (now (kept .entry)) (now (slips .entry)) (now (rows .entry))) r (carried (now (kept .exit)) (now (slips .exit)) (now (rows .exit))) ⌝ }
 {
     let at = scan::white_end(s, from);
-    let n = table::opens(s, at, 0);
-    if n < table::open_length(0) {
+    let n = tags::opens(s, at, 0);
+    if n < tags::open_length(0) {
         return Outcome::Stuck(scan::later(far, at + n));
     }
     match walk::read_element(s, 0, at, kept, slips, rows) {

@@ -5,7 +5,7 @@ ghost use lib.Dec.{T};
 ghost use lib.ListN.{length};
 ghost use Rattle.tree.specs.Form.{Elem, items};
 ghost use Rattle.state.specs.Fill.{Carried, stepOf};
-ghost use Rattle.table.specs.Table.{elementCount};
+ghost use Rattle.tags.specs.Tags.{elementCount};
 ghost use Rattle.table.specs.Held.{holdsElem};
 ghost use Rattle.reader.specs.Walk.{childrenAt, elementAt};
 ghost use Rattle.kept.specs.Kept.{stateOf};
@@ -26,8 +26,8 @@ pub fn read_close(s: &[u8], e: usize, far: usize, at: usize) -> Reading
     requires { ⌜ (e < elementCount) × (at ≤ length (now s)) ⌝ }
     ensures { λ r. ⌜ r ≡ closed (now (s .entry)) e far at ⌝ }
 {
-    let n = table::closes(s, at, e);
-    if n < table::close_length(e) {
+    let n = tags::closes(s, at, e);
+    if n < tags::close_length(e) {
         return Reading::Stuck(scan::later(far, at + n));
     }
     Reading::Ended(at + n)
@@ -49,7 +49,7 @@ pub fn read_element(
 {
     let part = table::part_of(e);
     let kind = table::kind_at(e);
-    let start = at + table::open_length(e);
+    let start = at + tags::open_length(e);
     let end = scan::run_end(s, start, kind);
     let event = Event {
         part,
@@ -82,8 +82,8 @@ pub fn read_children(
     while k < table::END {
         let row = table::row_at(k);
         let child = row.element;
-        let n = table::opens(s, at, child);
-        if n < table::open_length(child) {
+        let n = tags::opens(s, at, child);
+        if n < tags::open_length(child) {
             far = scan::later(far, at + n);
             if row.other <= k {
                 return Reading::Stuck(far);

@@ -1,4 +1,4 @@
--- Held   the tables hold the profile tree      Fits   an element's kind by its part      Ends   a tag by its ends
+-- Alike   kinds by their numbers      Held   the tables hold the profile tree      Fits   an element's kind by its part
+mod Alike
 pub mod Held
 pub mod Fits
-pub mod Ends

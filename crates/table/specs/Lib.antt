@@ -1,3 +1,3 @@
--- Table   the tables of the profile tree      Held   that they hold it
+-- Table   the rows of the profile tree      Held   that the tables hold it
 pub mod Table
 pub mod Held

@@ -1,15 +1,16 @@
 -- `table::first_of` meets its contract: each arm has the first row of its element.
 use Prim.Native.Nat.{ℕ}
-use Rattle.table.specs.Table.{elements, end, elementAt}
+use Rattle.tags.specs.Tags.{elements, elementAt}
+use Rattle.table.specs.Table.{firstRow}
 use Rattle.laws.proofs.Arms.{arm, last-key}
 use Rattle.table.proofs.first_of.Statement.{statement}
 use Rattle.table.proofs.first_of.Tie as tie
 
 abbrev entry : ℕ → ℕ
-entry i = elementAt i .first
+entry i = firstRow i
 
 pub first-of-spec : {M : Type 1} → statement M
-unfolding elements end elementAt
+unfolding elements elementAt firstRow
 first-of-spec =
     tie.close
     (tie.spec

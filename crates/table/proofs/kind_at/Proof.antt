@@ -1,16 +1,17 @@
 -- `table::kind_at` meets its contract: each arm has the kind of its element.
 use Prim.Native.Nat.{ℕ}
 use Rattle.tree.specs.declared.Kind.{Kind}
-use Rattle.table.specs.Table.{elements, end, elementAt, kindOf}
+use Rattle.tree.specs.Form.{kind}
+use Rattle.tags.specs.Tags.{elements, elementAt}
 use Rattle.laws.proofs.Arms.{arm, last-key}
 use Rattle.table.proofs.kind_at.Statement.{statement}
 use Rattle.table.proofs.kind_at.Tie as tie
 
 abbrev entry : ℕ → Kind
-entry i = elementAt i .kind
+entry i = kind (elementAt i)
 
 pub kind-at-spec : {M : Type 1} → statement M
-unfolding elements end elementAt kindOf
+unfolding elements elementAt
 kind-at-spec =
     tie.close
     (tie.spec

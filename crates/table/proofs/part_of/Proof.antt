@@ -1,15 +1,16 @@
 -- `table::part_of` meets its contract: each arm has the part of its element.
 use Prim.Native.Nat.{ℕ}
-use Rattle.table.specs.Table.{elements, end, elementAt}
+use Rattle.tree.specs.Form.{part}
+use Rattle.tags.specs.Tags.{elements, elementAt}
 use Rattle.laws.proofs.Arms.{arm, last-key}
 use Rattle.table.proofs.part_of.Statement.{statement}
 use Rattle.table.proofs.part_of.Tie as tie
 
 abbrev entry : ℕ → ℕ
-entry i = elementAt i .part
+entry i = part (elementAt i)
 
 pub part-of-spec : {M : Type 1} → statement M
-unfolding elements end elementAt
+unfolding elements elementAt
 part-of-spec =
     tie.close
     (tie.spec

@@ -2,7 +2,8 @@
 use Prim.Native.Nat.{ℕ}
 use mathlib.Core.List.{List, []}
 use lib.ListN.{getD}
-use Rattle.table.specs.Table.{rows, end}
+use Rattle.tags.specs.Tags.{elements}
+use Rattle.table.specs.Table.{rows}
 use Rattle.laws.proofs.Arms.{arm, last-key}
 use Rattle.table.proofs.row_numbers.Statement.{statement}
 use Rattle.table.proofs.row_numbers.Tie as tie
@@ -11,7 +12,7 @@ abbrev row : ℕ → List ℕ
 row i = getD rows i []
 
 pub row-numbers-spec : {M : Type 1} → statement M
-unfolding rows end
+unfolding elements rows
 row-numbers-spec =
     tie.close
     (tie.spec

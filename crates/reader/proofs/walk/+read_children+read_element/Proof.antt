@@ -14,7 +14,8 @@ use Rattle.reader.specs.Told.{told, Fine, closed}
 use Rattle.scan.proofs.Scans.{common-in, run-in}
 use Rattle.table.specs.Table.{rowsEnd}
 use Rattle.table.proofs.Fits.{fits}
-use Rattle.table.proofs.Held.{placed, led}
+use Rattle.table.proofs.Held.{first-inside, led}
+use Rattle.tags.proofs.Placed.{open-placed}
 use Rattle.reader.proofs.Going.{Kept, room-is, going-start, going-skip, going-stuck, going-child, going-lost, going-close, element-read, fine-from, fine-ended, closed-fine}
 use borrow.Fn.Kinds.{In}
 use borrow.Fn.PlainCycle.{Measures, is, falls, and}
@@ -31,10 +32,10 @@ use Rattle.scan.proofs.run_end.Reads as run-end-reads
 use Rattle.scan.proofs.white_end.Reads as white-end-reads
 use Rattle.table.proofs.first_of.Reads as first-of-reads
 use Rattle.table.proofs.kind_at.Reads as kind-at-reads
-use Rattle.table.proofs.open_length.Reads as open-length-reads
-use Rattle.table.proofs.opens.Reads as opens-reads
 use Rattle.table.proofs.part_of.Reads as part-of-reads
 use Rattle.table.proofs.row_at.Reads as row-at-reads
+use Rattle.tags.proofs.open_length.Reads as open-length-reads
+use Rattle.tags.proofs.opens.Reads as opens-reads
 use Rattle.reader.proofs.walk.+read_children+read_element.{statement}
 use Rattle.reader.proofs.walk.+read_children+read_element.Tie.{close}
 
@@ -115,7 +116,7 @@ read-children-first-of-requires : (t : ℕ) → read-children-lts.Need-first-of-
 read-children-first-of-requires t c κs = c .before .before .before .before .pre .1 .known
 
 read-children-loop-holds : (t : ℕ) → read-children-lts.Need-loop-holds (read-children-calls t) (read-children-at t) read-children.Post read-children-Inv-loop read-children-μ-loop
-read-children-loop-holds t c = let p = placed _ _ (c .before .before .before .before .before .pre .1 .known) refl in
+read-children-loop-holds t c = let p = first-inside _ (c .before .before .before .before .before .pre .1 .known) in
     record {
       behind = omega arith;
       inside = c .before .before .before .before .before .pre .1 .room;
@@ -277,9 +278,9 @@ read-element-sub-t12 t c = run-in _ _ _ _ (room-is _ _ _ _ _ (c .before .before 
 
 read-element-on-event-requires : (t : ℕ) → read-element-lts.Need-on-event-requires (read-element-calls t) (read-element-at t) read-element.Post
 read-element-on-event-requires t c κs = let q = room-is _ _ _ _ _ (c .before .before .before .before .before .before .before .before .before .before .before .pre .1) (c .before .before .before .before .open-length .ensures) in
-    let p = placed _ _ (c .before .before .before .before .before .before .before .before .before .before .before .pre .1 .known) refl in
+    let p = open-placed _ (c .before .before .before .before .before .before .before .before .before .before .before .pre .1 .known) .least in
     let w = run-in _ _ _ _ q (c .before .before .before .run-end .ensures) in
-    let f = fits _ _ (c .before .before .before .before .before .before .before .before .before .before .before .pre .1 .known) refl in (
+    let f = fits _ (c .before .before .before .before .before .before .before .before .before .before .before .pre .1 .known) in (
       c .before .before .before .before .before .before .before .before .before .before .before .pre .1 .long,
       c .before .before .before .before .before .before .before .before .before .before .before .pre .1 .short,
       omega arith,
@@ -294,7 +295,7 @@ read-element-on-event-requires t c κs = let q = room-is _ _ _ _ _ (c .before .b
 
 read-element-read-children-requires : (t : ℕ) → read-element-lts.Need-read-children-requires (read-element-calls t) (read-element-at t) read-element.Post
 read-element-read-children-requires t c κs = let q = room-is _ _ _ _ _ (c .before .before .before .before .before .before .before .before .before .before .before .before .before .before .before .before .before .before .before .before .before .pre .1) (c .before .before .before .before .before .before .before .before .before .before .before .before .before .before .open-length .ensures) in
-    let p = placed _ _ (c .before .before .before .before .before .before .before .before .before .before .before .before .before .before .before .before .before .before .before .before .before .pre .1 .known) refl in
+    let p = open-placed _ (c .before .before .before .before .before .before .before .before .before .before .before .before .before .before .before .before .before .before .before .before .before .pre .1 .known) .least in
     let w = run-in _ _ _ _ q (c .before .before .before .before .before .before .before .before .before .before .before .before .before .run-end .ensures) in
     let m = c .before .before .before .before .before .before .before .before .before .before .before .before .before .before .before .before .before .before .before .before .before .pre .0 in (
       omega (arith, c .before .before .before .before .before .before .before .before .before .before .before .before .before .before .open-length .ensures),
@@ -320,7 +321,7 @@ read-element-returns : (t : ℕ) → read-element-lts.Need-returns (read-element
 read-element-returns t c = let q = room-is _ _ _ _ _ (c .before .before .before .before .before .before .before .before .before .before .before .before .before .before .before .before .before .before .before .before .before .before .before .before .before .before .before .before .pre .1) (c .before .before .before .before .before .before .before .before .before .before .before .before .before .before .before .before .before .before .before .before .before .open-length .ensures) in
     let w = run-in _ _ _ _ q (c .before .before .before .before .before .before .before .before .before .before .before .before .before .before .before .before .before .before .before .before .run-end .ensures) in (
       fine-from (c .before .before .before .before .before .before .before .before .before .before .before .before .before .before .before .before .before .before .before .before .before .before .before .before .before .before .before .before .args .s .now) (c .before .before .before .before .before .before .before .before .before .before .before .before .before .before .before .before .before .before .before .before .before .before .before .before .before .before .before .before .args .at) (c .before .before .before .before .before .before .before .before .before .before .before .before .before .before .before .before .before .before .before .before .run-end .result) _ (omega arith) (c .before .before .before .before .before .before .read-children .result) (c .before .before .before .before .before .before .read-children .ensures .0),
-      element-read (c .before .before .before .before .before .before .before .before .before .before .before .before .before .before .before .before .before .before .before .before .before .before .before .before .before .before .before .before .args .s .now) _ _ _ _ _ _ _ _ _ (c .before .before .before .before .before .before .before .before .before .before .before .before .before .before .before .before .before .before .before .before .before .before .before .before .before .before .before .before .pre .1 .known) (c .before .before .before .before .before .before .before .before .before .before .before .before .before .before .before .before .before .before .before .before .before .before .before .part-of .ensures) (c .before .before .before .before .before .before .before .before .before .before .before .before .before .before .before .before .before .before .before .before .before .before .kind-at .ensures) (ap (λ (j : ℕ). c .before .before .before .before .before .before .before .before .before .before .before .before .before .before .before .before .before .before .before .before .before .before .before .before .before .before .before .before .args .at + j) (c .before .before .before .before .before .before .before .before .before .before .before .before .before .before .before .before .before .before .before .before .before .open-length .ensures)) (c .before .before .before .before .before .before .before .before .before .before .before .before .before .before .before .before .before .before .before .before .run-end .ensures) (c .before .before .before .before .before .before .before .before .before .before .before .before .before .before .before .before .on-event .ensures .1) (c .before .before .before .before .before .before .read-children .ensures .1),
+      element-read (c .before .before .before .before .before .before .before .before .before .before .before .before .before .before .before .before .before .before .before .before .before .before .before .before .before .before .before .before .args .s .now) _ _ _ _ _ _ _ _ _ (c .before .before .before .before .before .before .before .before .before .before .before .before .before .before .before .before .before .before .before .before .before .before .before .part-of .ensures) (c .before .before .before .before .before .before .before .before .before .before .before .before .before .before .before .before .before .before .before .before .before .before .kind-at .ensures) (ap (λ (j : ℕ). c .before .before .before .before .before .before .before .before .before .before .before .before .before .before .before .before .before .before .before .before .before .before .before .before .before .before .before .before .args .at + j) (c .before .before .before .before .before .before .before .before .before .before .before .before .before .before .before .before .before .before .before .before .before .open-length .ensures)) (c .before .before .before .before .before .before .before .before .before .before .before .before .before .before .before .before .before .before .before .before .run-end .ensures) (c .before .before .before .before .before .before .before .before .before .before .before .before .before .before .before .before .on-event .ensures .1) (c .before .before .before .before .before .before .read-children .ensures .1),
     )
 
 pub +read-children+read-element-spec : {M : Type 1} → statement M

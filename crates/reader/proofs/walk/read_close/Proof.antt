@@ -19,13 +19,13 @@ later-requires : tie.Need-later-requires
 later-requires c κs = search needs
 
 returns : tie.Need-returns
-returns c = close-stuck _ _ _ _ _ _ (c .before .before .before .before .before .pre .0) (c .before .before .before .closes .ensures) (c .before .before .close-length .ensures) _ (c .before .if1 .taken) (c .later .ensures)
+returns c = close-stuck _ _ _ _ _ _ (c .before .before .before .closes .ensures) (c .before .before .close-length .ensures) _ (c .before .if1 .taken) (c .later .ensures)
 
 add-t6 : tie.Need-add-t6
 add-t6 c = omega (arith, common-in _ _ _ _ (c .before .before .before .before .pre .1) (c .before .before .closes .ensures))
 
 returns-2 : tie.Need-returns-2
-returns-2 c = close-ended _ _ (c .before .before .before .before .args .far) _ _ _ (c .before .before .before .before .pre .0) (c .before .before .closes .ensures) (c .before .close-length .ensures) (c .if1 .left)
+returns-2 c = close-ended _ _ (c .before .before .before .before .args .far) _ _ _ (c .before .before .closes .ensures) (c .before .close-length .ensures) (c .if1 .left)
 
 pub read-close-spec : {M : Type 1} → statement M
 read-close-spec =

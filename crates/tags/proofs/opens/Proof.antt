@@ -1,0 +1,54 @@
+-- `tags::opens` meets its contract: where the bytes at the place have both ends of the tag, it stands there whole.
+use mathlib.Core.Path.{sym, _∙_}
+use native.Mathlib.Omega.{arith}
+use Rattle.scan.proofs.Words.{stands}
+use Rattle.tags.specs.Tags.{openTag}
+use Rattle.tags.proofs.Placed.{open-placed}
+use borrow.Author.Needs.{needs}
+use Rattle.tags.proofs.opens.Statement.{statement}
+use Rattle.tags.proofs.opens.Tie as tie
+
+open-length-requires : tie.Need-open-length-requires
+open-length-requires c κs = search needs
+
+open-head-requires : tie.Need-open-head-requires
+open-head-requires c κs = search needs
+
+starts-requires : tie.Need-starts-requires
+starts-requires c κs = omega (arith, open-placed _ (c .before .before .before .pre .1) .least)
+
+open-tail-requires : tie.Need-open-tail-requires
+open-tail-requires c κs = search needs
+
+ends-requires : tie.Need-ends-requires
+ends-requires c κs =
+    omega (arith, c .before .before .starts .ensures (c .before .if1 .taken) .0, open-placed _ (c .before .before .before .before .before .before .pre .1) .least)
+
+returns : tie.Need-returns
+returns c =
+    let a = c .before .before .before .before .before .before .before .before .args in
+    let p = open-placed _ (c .before .before .before .before .before .before .before .before .pre .1) in
+    let n = c .before .before .before .before .before .before .open-length .ensures in
+    stands (a .s .now) (openTag (a .e)) (a .at) _ _ _ (λ i. omega (arith, c .before .before .before .before .before .before .before .shared-slice-known .given i)) (p .bytes)
+    (sym n) (omega (arith, n, p .least))
+    (c .before .before .before .before .before .open-head .ensures) (c .before .before .open-tail .ensures)
+    (c .before .before .before .before .starts .ensures (c .before .before .before .if1 .taken)) (sym (c .before .ends .ensures) ∙ c .if2 .taken)
+
+open-agrees-requires : tie.Need-open-agrees-requires
+open-agrees-requires c κs = search needs
+
+returns-2 : tie.Need-returns-2
+returns-2 c = search needs
+
+pub opens-spec : {M : Type 1} → statement M
+opens-spec =
+    tie.close
+    (tie.spec
+    open-length-requires
+    open-head-requires
+    starts-requires
+    open-tail-requires
+    ends-requires
+    returns
+    open-agrees-requires
+    returns-2)

@@ -1,0 +1,45 @@
+-- THE ELEMENTS OF THE PROFILE TREE BY NUMBER, in the order of their opening tags, and their tags.
+--   flat e                  the element e and all below it
+--   elements, elementCount  those of the tree, and how many they are
+--   elementAt i             the element with a number
+--   openTag i, closeTag i   its tags
+--   tags, tagsBefore i      the tags of all elements, each element's opening tag before its closing tag; how many bytes stand before those of the element i
+use Prim.Native.Nat.{ℕ}
+use mathlib.Core.List.{List, [], _∷_, _++_}
+use lib.ListN.{length, take, getD}
+use Rattle.laws.specs.Bytes.{Bytes}
+use Rattle.tree.specs.Form.{Elem, Items, elem, none, item, opening, closing}
+use Rattle.tree.specs.Pain008.{Document}
+
+abbrev mutual
+  pub flat : Elem → List Elem
+  flat (elem p nm at k is) = elem p nm at k is ∷ flatItems is
+
+  pub flatItems : Items → List Elem
+  flatItems none = []
+  flatItems (item h e is) = flat e ++ flatItems is
+
+unfoldable pub elements : List Elem
+elements = flat Document
+
+abbrev pub elementCount : ℕ
+elementCount = 61
+
+unfoldable pub elementAt : ℕ → Elem
+elementAt i = getD elements i Document
+
+unfoldable pub openTag : ℕ → Bytes
+openTag i = opening (elementAt i)
+
+unfoldable pub closeTag : ℕ → Bytes
+closeTag i = closing (elementAt i)
+
+abbrev pub allTags : List Elem → Bytes
+allTags [] = []
+allTags (e ∷ es) = opening e ++ (closing e ++ allTags es)
+
+unfoldable pub tags : Bytes
+tags = allTags elements
+
+unfoldable pub tagsBefore : ℕ → ℕ
+tagsBefore i = length (allTags (take i elements))

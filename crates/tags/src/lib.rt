@@ -1,0 +1,285 @@
+// The tags of the profile tree: one row of them all, their lengths by an element's number, and how much of a tag stands at a place.
+// A table is a `match` on a number, which costs a few instructions; a constant array is made anew on the stack at each use. tools/tables prints them.
+//
+//   words    the ends of the tags as numbers
+ghost use mathlib.Core.Path.{_≡_};
+ghost use Prim.Native.Nat.{_-_, _≤_, _<_};
+ghost use lib.ListN.{length, take, drop};
+ghost use Rattle.tree.specs.Form.{common};
+ghost use Rattle.tags.specs.Tags.{elementCount, openTag, closeTag, tags, tagsBefore};
+
+pub mod words;
+
+// Each element's opening tag and closing tag, in the order of the opening tags.
+const TAGS: [u8; 1132] =
+    *b"<Document xmlns=\"urn:iso:std:iso:20022:tech:xsd:pain.008.001.08\"></Document><CstmrDrctDbtInitn></CstmrDrctDbtInitn><GrpHdr></GrpHdr><MsgId></MsgId><CreDtTm></CreDtTm><NbOfTxs></NbOfTxs><CtrlSum></CtrlSum><InitgPty></InitgPty><Nm></Nm><PmtInf></PmtInf><PmtInfId></PmtInfId><PmtMtd></PmtMtd><BtchBookg></BtchBookg><NbOfTxs></NbOfTxs><CtrlSum></CtrlSum><PmtTpInf></PmtTpInf><SvcLvl></SvcLvl><Cd></Cd><LclInstrm></LclInstrm><Cd></Cd><SeqTp></SeqTp><ReqdColltnDt></ReqdColltnDt><Cdtr></Cdtr><Nm></Nm><CdtrAcct></CdtrAcct><Id></Id><IBAN></IBAN><CdtrAgt></CdtrAgt><FinInstnId></FinInstnId><BICFI></BICFI><Othr></Othr><Id></Id><ChrgBr></ChrgBr><CdtrSchmeId></CdtrSchmeId><Id></Id><PrvtId></PrvtId><Othr></Othr><Id></Id><SchmeNm></SchmeNm><Prtry></Prtry><DrctDbtTxInf></DrctDbtTxInf><PmtId></PmtId><InstrId></InstrId><EndToEndId></EndToEndId><InstdAmt Ccy=\"EUR\"></InstdAmt><DrctDbtTx></DrctDbtTx><MndtRltdInf></MndtRltdInf><MndtId></MndtId><DtOfSgntr></DtOfSgntr><DbtrAgt></DbtrAgt><FinInstnId></FinInstnId><BICFI></BICFI><Othr></Othr><Id></Id><Dbtr></Dbtr><Nm></Nm><DbtrAcct></DbtrAcct><Id></Id><IBAN></IBAN><RmtInf></RmtInf><Ustrd></Ustrd>";
+
+// ─── an element's tags, by its number ───
+
+// How many bytes its opening tag has.
+pub fn open_length(e: usize) -> usize
+    requires { ⌜ e < elementCount ⌝ }
+    ensures { λ r. ⌜ r ≡ length (openTag e) ⌝ }
+{
+    match e {
+        0 => 65,
+        1 => 19,
+        2 => 8,
+        3 => 7,
+        4 => 9,
+        5 => 9,
+        6 => 9,
+        7 => 10,
+        8 => 4,
+        9 => 8,
+        10 => 10,
+        11 => 8,
+        12 => 11,
+        13 => 9,
+        14 => 9,
+        15 => 10,
+        16 => 8,
+        17 => 4,
+        18 => 11,
+        19 => 4,
+        20 => 7,
+        21 => 14,
+        22 => 6,
+        23 => 4,
+        24 => 10,
+        25 => 4,
+        26 => 6,
+        27 => 9,
+        28 => 12,
+        29 => 7,
+        30 => 6,
+        31 => 4,
+        32 => 8,
+        33 => 13,
+        34 => 4,
+        35 => 8,
+        36 => 6,
+        37 => 4,
+        38 => 9,
+        39 => 7,
+        40 => 14,
+        41 => 7,
+        42 => 9,
+        43 => 12,
+        44 => 20,
+        45 => 11,
+        46 => 13,
+        47 => 8,
+        48 => 11,
+        49 => 9,
+        50 => 12,
+        51 => 7,
+        52 => 6,
+        53 => 4,
+        54 => 6,
+        55 => 4,
+        56 => 10,
+        57 => 4,
+        58 => 6,
+        59 => 8,
+        _ => 7,
+    }
+}
+
+// How many bytes its closing tag has.
+pub fn close_length(e: usize) -> usize
+    requires { ⌜ e < elementCount ⌝ }
+    ensures { λ r. ⌜ r ≡ length (closeTag e) ⌝ }
+{
+    match e {
+        0 => 11,
+        1 => 20,
+        2 => 9,
+        3 => 8,
+        4 => 10,
+        5 => 10,
+        6 => 10,
+        7 => 11,
+        8 => 5,
+        9 => 9,
+        10 => 11,
+        11 => 9,
+        12 => 12,
+        13 => 10,
+        14 => 10,
+        15 => 11,
+        16 => 9,
+        17 => 5,
+        18 => 12,
+        19 => 5,
+        20 => 8,
+        21 => 15,
+        22 => 7,
+        23 => 5,
+        24 => 11,
+        25 => 5,
+        26 => 7,
+        27 => 10,
+        28 => 13,
+        29 => 8,
+        30 => 7,
+        31 => 5,
+        32 => 9,
+        33 => 14,
+        34 => 5,
+        35 => 9,
+        36 => 7,
+        37 => 5,
+        38 => 10,
+        39 => 8,
+        40 => 15,
+        41 => 8,
+        42 => 10,
+        43 => 13,
+        44 => 11,
+        45 => 12,
+        46 => 14,
+        47 => 9,
+        48 => 12,
+        49 => 10,
+        50 => 13,
+        51 => 8,
+        52 => 7,
+        53 => 5,
+        54 => 7,
+        55 => 5,
+        56 => 11,
+        57 => 5,
+        58 => 7,
+        59 => 9,
+        _ => 8,
+    }
+}
+
+// Where its opening tag starts among the tags; its closing tag stands behind that.
+fn open_start(e: usize) -> usize
+    requires { ⌜ e < elementCount ⌝ }
+    ensures { λ r. ⌜ r ≡ tagsBefore e ⌝ }
+{
+    match e {
+        0 => 0,
+        1 => 76,
+        2 => 115,
+        3 => 132,
+        4 => 147,
+        5 => 166,
+        6 => 185,
+        7 => 204,
+        8 => 225,
+        9 => 234,
+        10 => 251,
+        11 => 272,
+        12 => 289,
+        13 => 312,
+        14 => 331,
+        15 => 350,
+        16 => 371,
+        17 => 388,
+        18 => 397,
+        19 => 420,
+        20 => 429,
+        21 => 444,
+        22 => 473,
+        23 => 486,
+        24 => 495,
+        25 => 516,
+        26 => 525,
+        27 => 538,
+        28 => 557,
+        29 => 582,
+        30 => 597,
+        31 => 610,
+        32 => 619,
+        33 => 636,
+        34 => 663,
+        35 => 672,
+        36 => 689,
+        37 => 702,
+        38 => 711,
+        39 => 730,
+        40 => 745,
+        41 => 774,
+        42 => 789,
+        43 => 808,
+        44 => 833,
+        45 => 864,
+        46 => 887,
+        47 => 914,
+        48 => 931,
+        49 => 954,
+        50 => 973,
+        51 => 998,
+        52 => 1013,
+        53 => 1026,
+        54 => 1035,
+        55 => 1048,
+        56 => 1057,
+        57 => 1078,
+        58 => 1087,
+        59 => 1100,
+        _ => 1117,
+    }
+}
+
+// ─── the tags at a place ───
+
+// How many bytes of the stretch of the tags from `from` to `to` stand at a place.
+fn agrees(s: &[u8], at: usize, from: usize, to: usize) -> usize
+    requires { ⌜ (at ≤ length (now s)) × ((from ≤ to) × (to ≤ length tags)) ⌝ }
+    ensures { λ r. ⌜ r ≡ common (drop at (now (s .entry))) (take (to - from) (drop from tags)) ⌝ }
+{
+    scan::agrees(s, at, &TAGS[from..to])
+}
+
+// How many bytes of an element's opening tag stand at a place, byte by byte.
+fn open_agrees(s: &[u8], at: usize, e: usize) -> usize
+    requires { ⌜ (at ≤ length (now s)) × (e < elementCount) ⌝ }
+    ensures { λ r. ⌜ r ≡ common (drop at (now (s .entry))) (openTag e) ⌝ }
+{
+    let from = open_start(e);
+    let n = open_length(e);
+    agrees(s, at, from, from + n)
+}
+
+// How many bytes of its closing tag.
+fn close_agrees(s: &[u8], at: usize, e: usize) -> usize
+    requires { ⌜ (at ≤ length (now s)) × (e < elementCount) ⌝ }
+    ensures { λ r. ⌜ r ≡ common (drop at (now (s .entry))) (closeTag e) ⌝ }
+{
+    let from = open_start(e) + open_length(e);
+    let n = close_length(e);
+    agrees(s, at, from, from + n)
+}
+
+// How many bytes of an element's opening tag stand at a place: all of them, where the bytes there have both its ends.
+pub fn opens(s: &[u8], at: usize, e: usize) -> usize
+    requires { ⌜ (at ≤ length (now s)) × (e < elementCount) ⌝ }
+    ensures { λ r. ⌜ r ≡ common (drop at (now (s .entry))) (openTag e) ⌝ }
+{
+    let n = open_length(e);
+    if scan::starts(s, at, n, words::open_head(e)) {
+        if scan::ends(s, at, n, words::open_tail(e)) {
+            return n;
+        }
+    }
+    open_agrees(s, at, e)
+}
+
+// How many bytes of its closing tag.
+pub fn closes(s: &[u8], at: usize, e: usize) -> usize
+    requires { ⌜ (at ≤ length (now s)) × (e < elementCount) ⌝ }
+    ensures { λ r. ⌜ r ≡ common (drop at (now (s .entry))) (closeTag e) ⌝ }
+{
+    let n = close_length(e);
+    if scan::starts(s, at, n, words::close_head(e)) {
+        if scan::ends(s, at, n, words::close_tail(e)) {
+            return n;
+        }
+    }
+    close_agrees(s, at, e)
+}
