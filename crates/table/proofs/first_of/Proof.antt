@@ -1,13 +1,19 @@
--- `table::first_of` meets its contract: each arm has the first row of its element.
+-- `table::first_of` meets its contract: each arm has the first row of its element, and every other element has none.
 use Prim.Native.Nat.{ℕ}
-use Rattle.tags.specs.Tags.{elements, elementAt}
-use Rattle.table.specs.Table.{firstRow}
-use Rattle.laws.proofs.Arms.{arm, last-key}
+use mathlib.Core.List.{List, [], _∷_}
+use mathlib.Core.Path.{sym}
+use lib.Dec.{eqb, eqb→eq}
+use Rattle.laws.proofs.Arms.{arm, others}
+use Rattle.tags.specs.Tags.{elementCount, elements, elementAt}
+use Rattle.table.specs.Table.{rowsEnd, firstRow}
 use Rattle.table.proofs.first_of.Statement.{statement}
 use Rattle.table.proofs.first_of.Tie as tie
 
 abbrev entry : ℕ → ℕ
 entry i = firstRow i
+
+abbrev keys : List ℕ
+keys = 59 ∷ 57 ∷ 56 ∷ 54 ∷ 52 ∷ 50 ∷ 49 ∷ 46 ∷ 45 ∷ 41 ∷ 40 ∷ 38 ∷ 36 ∷ 35 ∷ 34 ∷ 33 ∷ 30 ∷ 28 ∷ 27 ∷ 25 ∷ 24 ∷ 22 ∷ 18 ∷ 16 ∷ 15 ∷ 9 ∷ 7 ∷ 2 ∷ 1 ∷ 0 ∷ []
 
 pub first-of-spec : {M : Type 1} → statement M
 unfolding elements elementAt firstRow
@@ -44,34 +50,4 @@ first-of-spec =
     (λ c. arm entry (c .match .keys28))
     (λ c. arm entry (c .match .keys29))
     (λ c. arm entry (c .match .keys30))
-    (λ c. arm entry (c .match .keys31))
-    (λ c. arm entry (c .match .keys32))
-    (λ c. arm entry (c .match .keys33))
-    (λ c. arm entry (c .match .keys34))
-    (λ c. arm entry (c .match .keys35))
-    (λ c. arm entry (c .match .keys36))
-    (λ c. arm entry (c .match .keys37))
-    (λ c. arm entry (c .match .keys38))
-    (λ c. arm entry (c .match .keys39))
-    (λ c. arm entry (c .match .keys40))
-    (λ c. arm entry (c .match .keys41))
-    (λ c. arm entry (c .match .keys42))
-    (λ c. arm entry (c .match .keys43))
-    (λ c. arm entry (c .match .keys44))
-    (λ c. arm entry (c .match .keys45))
-    (λ c. arm entry (c .match .keys46))
-    (λ c. arm entry (c .match .keys47))
-    (λ c. arm entry (c .match .keys48))
-    (λ c. arm entry (c .match .keys49))
-    (λ c. arm entry (c .match .keys50))
-    (λ c. arm entry (c .match .keys51))
-    (λ c. arm entry (c .match .keys52))
-    (λ c. arm entry (c .match .keys53))
-    (λ c. arm entry (c .match .keys54))
-    (λ c. arm entry (c .match .keys55))
-    (λ c. arm entry (c .match .keys56))
-    (λ c. arm entry (c .match .keys57))
-    (λ c. arm entry (c .match .keys58))
-    (λ c. arm entry (c .match .keys59))
-    (λ c. arm entry (c .match .keys60))
-    (λ c. arm entry (last-key 60 (c .before .args .e) (c .before .pre) (c .match .rest))))
+    (λ c. sym (eqb→eq (entry (c .before .args .e)) rowsEnd (others keys (λ i. eqb (entry i) rowsEnd) elementCount (c .before .args .e) tt (c .before .pre) (c .match .rest)))))

@@ -1,14 +1,22 @@
--- `table::kind_at` meets its contract: each arm has the kind of its element.
+-- `table::kind_at` meets its contract: each arm has the kind of its element, and every other element holds elements.
 use Prim.Native.Nat.{ℕ}
+use mathlib.Core.List.{List, [], _∷_}
+use mathlib.Core.Path.{sym}
+use Rattle.laws.proofs.Arms.{arm, others}
 use Rattle.tree.specs.declared.Kind.{Kind}
+use Rattle.tree.specs.declared.Kind.the-variants.{Holds}
 use Rattle.tree.specs.Form.{kind}
-use Rattle.tags.specs.Tags.{elements, elementAt}
-use Rattle.laws.proofs.Arms.{arm, last-key}
+use Rattle.tags.specs.Tags.{elementCount, elements, elementAt}
+use Rattle.table.specs.Held.{sameKind}
+use Rattle.table.proofs.Alike.{same-kind}
 use Rattle.table.proofs.kind_at.Statement.{statement}
 use Rattle.table.proofs.kind_at.Tie as tie
 
 abbrev entry : ℕ → Kind
 entry i = kind (elementAt i)
+
+abbrev keys : List ℕ
+keys = 60 ∷ 58 ∷ 55 ∷ 53 ∷ 51 ∷ 48 ∷ 47 ∷ 44 ∷ 43 ∷ 42 ∷ 39 ∷ 37 ∷ 32 ∷ 31 ∷ 29 ∷ 26 ∷ 23 ∷ 21 ∷ 20 ∷ 19 ∷ 17 ∷ 14 ∷ 13 ∷ 12 ∷ 11 ∷ 10 ∷ 8 ∷ 6 ∷ 5 ∷ 4 ∷ 3 ∷ []
 
 pub kind-at-spec : {M : Type 1} → statement M
 unfolding elements elementAt
@@ -46,33 +54,4 @@ kind-at-spec =
     (λ c. arm entry (c .match .keys29))
     (λ c. arm entry (c .match .keys30))
     (λ c. arm entry (c .match .keys31))
-    (λ c. arm entry (c .match .keys32))
-    (λ c. arm entry (c .match .keys33))
-    (λ c. arm entry (c .match .keys34))
-    (λ c. arm entry (c .match .keys35))
-    (λ c. arm entry (c .match .keys36))
-    (λ c. arm entry (c .match .keys37))
-    (λ c. arm entry (c .match .keys38))
-    (λ c. arm entry (c .match .keys39))
-    (λ c. arm entry (c .match .keys40))
-    (λ c. arm entry (c .match .keys41))
-    (λ c. arm entry (c .match .keys42))
-    (λ c. arm entry (c .match .keys43))
-    (λ c. arm entry (c .match .keys44))
-    (λ c. arm entry (c .match .keys45))
-    (λ c. arm entry (c .match .keys46))
-    (λ c. arm entry (c .match .keys47))
-    (λ c. arm entry (c .match .keys48))
-    (λ c. arm entry (c .match .keys49))
-    (λ c. arm entry (c .match .keys50))
-    (λ c. arm entry (c .match .keys51))
-    (λ c. arm entry (c .match .keys52))
-    (λ c. arm entry (c .match .keys53))
-    (λ c. arm entry (c .match .keys54))
-    (λ c. arm entry (c .match .keys55))
-    (λ c. arm entry (c .match .keys56))
-    (λ c. arm entry (c .match .keys57))
-    (λ c. arm entry (c .match .keys58))
-    (λ c. arm entry (c .match .keys59))
-    (λ c. arm entry (c .match .keys60))
-    (λ c. arm entry (last-key 60 (c .before .args .e) (c .before .pre) (c .match .rest))))
+    (λ c. sym (same-kind (entry (c .before .args .e)) Holds (others keys (λ i. sameKind (entry i) Holds) elementCount (c .before .args .e) tt (c .before .pre) (c .match .rest)))))

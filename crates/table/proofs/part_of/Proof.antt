@@ -1,13 +1,19 @@
--- `table::part_of` meets its contract: each arm has the part of its element.
+-- `table::part_of` meets its contract: each arm has the part of its element, and every other element has none.
 use Prim.Native.Nat.{ℕ}
+use mathlib.Core.List.{List, [], _∷_}
+use mathlib.Core.Path.{sym}
+use lib.Dec.{eqb, eqb→eq}
 use Rattle.tree.specs.Form.{part}
-use Rattle.tags.specs.Tags.{elements, elementAt}
-use Rattle.laws.proofs.Arms.{arm, last-key}
+use Rattle.tags.specs.Tags.{elementCount, elements, elementAt}
+use Rattle.laws.proofs.Arms.{arm, others}
 use Rattle.table.proofs.part_of.Statement.{statement}
 use Rattle.table.proofs.part_of.Tie as tie
 
 abbrev entry : ℕ → ℕ
 entry i = part (elementAt i)
+
+abbrev keys : List ℕ
+keys = 60 ∷ 58 ∷ 55 ∷ 51 ∷ 48 ∷ 47 ∷ 44 ∷ 43 ∷ 40 ∷ 21 ∷ 20 ∷ 19 ∷ 14 ∷ 13 ∷ 9 ∷ 6 ∷ 5 ∷ []
 
 pub part-of-spec : {M : Type 1} → statement M
 unfolding elements elementAt
@@ -31,47 +37,4 @@ part-of-spec =
     (λ c. arm entry (c .match .keys15))
     (λ c. arm entry (c .match .keys16))
     (λ c. arm entry (c .match .keys17))
-    (λ c. arm entry (c .match .keys18))
-    (λ c. arm entry (c .match .keys19))
-    (λ c. arm entry (c .match .keys20))
-    (λ c. arm entry (c .match .keys21))
-    (λ c. arm entry (c .match .keys22))
-    (λ c. arm entry (c .match .keys23))
-    (λ c. arm entry (c .match .keys24))
-    (λ c. arm entry (c .match .keys25))
-    (λ c. arm entry (c .match .keys26))
-    (λ c. arm entry (c .match .keys27))
-    (λ c. arm entry (c .match .keys28))
-    (λ c. arm entry (c .match .keys29))
-    (λ c. arm entry (c .match .keys30))
-    (λ c. arm entry (c .match .keys31))
-    (λ c. arm entry (c .match .keys32))
-    (λ c. arm entry (c .match .keys33))
-    (λ c. arm entry (c .match .keys34))
-    (λ c. arm entry (c .match .keys35))
-    (λ c. arm entry (c .match .keys36))
-    (λ c. arm entry (c .match .keys37))
-    (λ c. arm entry (c .match .keys38))
-    (λ c. arm entry (c .match .keys39))
-    (λ c. arm entry (c .match .keys40))
-    (λ c. arm entry (c .match .keys41))
-    (λ c. arm entry (c .match .keys42))
-    (λ c. arm entry (c .match .keys43))
-    (λ c. arm entry (c .match .keys44))
-    (λ c. arm entry (c .match .keys45))
-    (λ c. arm entry (c .match .keys46))
-    (λ c. arm entry (c .match .keys47))
-    (λ c. arm entry (c .match .keys48))
-    (λ c. arm entry (c .match .keys49))
-    (λ c. arm entry (c .match .keys50))
-    (λ c. arm entry (c .match .keys51))
-    (λ c. arm entry (c .match .keys52))
-    (λ c. arm entry (c .match .keys53))
-    (λ c. arm entry (c .match .keys54))
-    (λ c. arm entry (c .match .keys55))
-    (λ c. arm entry (c .match .keys56))
-    (λ c. arm entry (c .match .keys57))
-    (λ c. arm entry (c .match .keys58))
-    (λ c. arm entry (c .match .keys59))
-    (λ c. arm entry (c .match .keys60))
-    (λ c. arm entry (last-key 60 (c .before .args .e) (c .before .pre) (c .match .rest))))
+    (λ c. sym (eqb→eq (entry (c .before .args .e)) 0 (others keys (λ i. eqb (entry i) 0) elementCount (c .before .args .e) tt (c .before .pre) (c .match .rest)))))
