@@ -41,7 +41,7 @@ use Rattle.reader.specs.Told.{told, closed, pick, Fine, Ready}
 use Rattle.reader.specs.Read.{carried}
 use Rattle.scan.proofs.Scans.{common-le, common-in}
 use Rattle.reader.proofs.Walks.{children-is}
-use Rattle.tags.proofs.Placed.{close-placed}
+use Rattle.tags.proofs.Sizes.{close-tag}
 use Rattle.table.proofs.Held.{Held, held, HeldRow, held-row, held-none}
 
 -- ─── a word at a place ───
@@ -327,7 +327,7 @@ unfolding closed
 closed-fine s e far′ at st h l w =
     let t : Bytes = tags.closeTag e in
     let n : ℕ = common (drop at s) t in
-    go n (ltb n (length t)) (common-in s t at n l refl .0) (λ f. omega (arith, close-placed e h .least, ltb-false n (length t) f))
+    go n (ltb n (length t)) (common-in s t at n l refl .0) (λ f. omega (arith, close-tag e h .least, ltb-false n (length t) f))
   where
     go : (n : ℕ) (z : Bool) → at + n ≤ length s → (z ≡ false → 1 ≤ n) → Fine s at (pick z (Stuck (max far′ (at + n))) (Ended (at + n))) st
     go n true a b = tt

@@ -1,11 +1,12 @@
 -- WHAT THE LEAVES FIND: `common` at a place of the whole, and the classes of a run.
 --   common-go, common-miss, common-out, common-whole   a loop that holds a word against the bytes at a place
 --   common-front                                       the front of a message agrees whole
+--   common-take, common-drop                           how far the front of a word agrees, and what is behind bytes that agree
 --   white-last, text-no, text-yes                      a byte of a run
 --   run-in                                             a run ends at or behind its place, and within the message
 --   common-le, common-in                               no more agrees than there is
-use Prim.Native.Nat.{ℕ, zero, suc, _+_, _≤_, _<_, zero-le}
-use native.Mathlib.Nat.{le-of-suc-le-suc}
+use Prim.Native.Nat.{ℕ, zero, suc, _+_, _≤_, _<_, min, zero-le}
+use native.Mathlib.Nat.{le-of-suc-le-suc, zero-min}
 use native.Mathlib.Numerals.{add-one}
 use native.Mathlib.Omega.{arith}
 use mathlib.Core.Bool.{Bool, true, false, not}
@@ -54,6 +55,26 @@ pub common-front : (s : Bytes) (n : ℕ) → n ≤ length s → common s (take n
 common-front s zero h = common-nil s
 common-front [] (suc n) h = absurd (omega arith)
 common-front (a ∷ s) (suc n) h = common-yes a a s (take n s) refl ∙ ap suc (common-front s n (le-of-suc-le-suc h))
+
+pub common-take : (k : ℕ) (s w : Bytes) → common s (take k w) ≡ min k (common s w)
+common-take zero s w = common-nil s ∙ sym (zero-min (common s w))
+common-take (suc k) s [] = omega (arith, common-nil s)
+common-take (suc k) [] (b ∷ w) = omega arith
+common-take (suc k) (a ∷ s) (b ∷ w) =
+    let h = common-take k s w in
+    eqb-cases (λ z. elim z [ true ↦ suc (common s (take k w)) | false ↦ 0 ] ≡ min (suc k) (elim z [ true ↦ suc (common s w) | false ↦ 0 ])) a b
+    (λ e. omega arith) (λ e. omega arith)
+
+pub common-drop : (k : ℕ) (s w : Bytes) → k ≤ common s w → common s w ≡ k + common (drop k s) (drop k w)
+common-drop zero s w h = omega arith
+common-drop (suc k) [] w h = absurd (omega arith)
+common-drop (suc k) (a ∷ s) [] h = absurd (omega arith)
+common-drop (suc k) (a ∷ s) (b ∷ w) h = go (eqb a b) h (common-drop k s w)
+  where
+    go : (z : Bool) → suc k ≤ elim z [ true ↦ suc (common s w) | false ↦ 0 ] → (k ≤ common s w → common s w ≡ k + common (drop k s) (drop k w))
+        → elim z [ true ↦ suc (common s w) | false ↦ 0 ] ≡ suc k + common (drop k s) (drop k w)
+    go true h f = omega (arith, f (omega arith))
+    go false h f = absurd (omega arith)
 
 -- ─── runs ───
 

@@ -5,8 +5,11 @@
 --   known                     words of one length with the same ends are the same word
 --   reach-near, reach-far     how many bytes an end has
 --   head-at, tail-at          the ends of the n bytes at a place
+--   low-byte                  what is left of a list of bytes as one number: its low byte, and the number of the others
+--   reach-fits                both ends together are the word
+--   front-agrees, back-agrees how far a word agrees, by its first bytes; by its last, where its first agree whole
 --   stands                    a word stands at a place whole, if the bytes there have its ends
-use Prim.Native.Nat.{ℕ, zero, suc, _+_, _*_, _-_, _≤_, _<_}
+use Prim.Native.Nat.{ℕ, zero, suc, _+_, _*_, _-_, _/_, _%_, _≤_, _<_, min}
 use native.Mathlib.Omega.{arith}
 use native.Mathlib.Decide.{decLt}
 use mathlib.Core.Bool.{true}
@@ -20,8 +23,8 @@ use Rattle.laws.specs.Bytes.{Bytes, all}
 use Rattle.laws.proofs.Tests.{and-l, and-r, and-both, true-T}
 use Rattle.laws.proofs.Loops.{drop-step, all-take, all-drop}
 use Rattle.tree.specs.Form.{common}
-use Rattle.scan.proofs.Scans.{common-front}
-use Rattle.scan.specs.Words.{byte, little, reach, headOf, tailOf}
+use Rattle.scan.proofs.Scans.{common-front, common-take, common-drop}
+use Rattle.scan.specs.Words.{byte, little, reach, headOf, tailOf, Ends}
 
 -- ─── bytes at a place ───
 
@@ -53,6 +56,17 @@ little-same (a ∷ s) (b ∷ t) n p q e =
     let r : s ≡ t = little-same s t (omega arith) (and-r (byte a) (all byte s) p) (and-r (byte b) (all byte t) q) (omega arith) in
     cc
 
+byte-at : (w : Bytes) (i : ℕ) → T (all byte w) → i < length w → getD w i 0 < 256
+byte-at [] i p h = absurd (omega arith)
+byte-at (a ∷ w) zero p h = ltb→lt a 256 (and-l (byte a) (all byte w) p)
+byte-at (a ∷ w) (suc i) p h = byte-at w i (and-r (byte a) (all byte w) p) (omega arith)
+
+pub low-byte : (w : Bytes) (i rest : ℕ) → T (all byte w) → i < length w → rest ≡ little (drop i w) → (rest % 256 ≡ getD w i 0) × (rest / 256 ≡ little (drop (i + 1) w))
+low-byte w i rest p h e =
+    let q : little (drop i w) ≡ getD w i 0 + 256 * little (drop (i + 1) w) = rw (drop-step w i h) in
+    let b : getD w i 0 < 256 = byte-at w i p h in
+    (omega arith, omega arith)
+
 pub all-bytes : (s : Bytes) → ((i : ℕ) → getD s i 0 < 256) → T (all byte s)
 all-bytes [] h = tt
 all-bytes (a ∷ s) h = and-both (byte a) (all byte s) (true-T (byte a) (lt-ltb a 256 (h 0))) (all-bytes s (λ i. h (suc i)))
@@ -66,6 +80,13 @@ reach-near n h = rw (lt-ltb n 8 h, reach)
 pub reach-far : (n : ℕ) → 8 ≤ n → reach n ≡ 8
 unfolding reach
 reach-far n h = rw (le-ltb n 8 h, reach)
+
+pub reach-fits : (n : ℕ) → 4 ≤ n → n ≤ 16 → (reach n ≤ n) × (n ≤ reach n + reach n)
+reach-fits n l h = go (decLt n 8)
+  where
+    go : Dec (n < 8) → (reach n ≤ n) × (n ≤ reach n + reach n)
+    go (yes x) = omega (arith, reach-near n x)
+    go (no x) = omega (arith, reach-far n (omega arith))
 
 -- words of one length that begin and end with the same k bytes, of which k are at least half
 same-ends : (u w : Bytes) (k : ℕ) → length u ≡ length w → k ≤ length u → length u ≤ k + k → T (all byte u) → T (all byte w)
@@ -118,6 +139,26 @@ module _ (s : Bytes) (at n k : ℕ) (room : at + n ≤ length s) (is : reach n �
       rw (there, is) (ap little d)
 
 -- ─── a word at a place ───
+
+-- how far a word with these ends agrees, of which k bytes make an end
+module _ (s w : Bytes) (at n k head tail m : ℕ) (e : Ends w n head tail) (is : k ≡ reach n) (h : k ≤ n) where
+  pub front-agrees : ((v : Bytes) → T (all byte v) → length v ≡ k → little v ≡ head → m ≡ common (drop at s) v) → m ≡ min k (common (drop at s) w)
+  unfolding headOf
+  front-agrees f =
+      let a : little (take (reach (length w)) w) ≡ head = e .first in
+      let b : little (take k w) ≡ head = rw (e .long, sym is) at a in
+      f (take k w) (all-take byte k w (e .bytes)) (length-take-le k w (rw (e .long) h)) b ∙ common-take k (drop at s) w
+
+  pub back-agrees : n ≤ k + k → k ≤ common (drop at s) w
+      → ((v : Bytes) → T (all byte v) → length v ≡ k → little v ≡ tail → m ≡ common (drop (at + (n - k)) s) v) → n - k + m ≡ common (drop at s) w
+  unfolding tailOf
+  back-agrees u l f =
+      let j : ℕ = n - k in
+      let a : little (drop (length w - reach (length w)) w) ≡ tail = e .last in
+      let b : little (drop j w) ≡ tail = rw (e .long, sym is) at a in
+      let c : length (drop j w) ≡ k = rw (length-drop j w, e .long) (omega arith) in
+      let d : m ≡ common (drop j (drop at s)) (drop j w) = f (drop j w) (all-drop byte j w (e .bytes)) c b ∙ ap (λ (z : Bytes). common z (drop j w)) (sym (drop-drop j at s)) in
+      omega (arith, common-drop j (drop at s) w (omega arith))
 
 -- a word of n bytes stands at a place whole, if the n bytes there have its ends
 pub stands : (s w : Bytes) (at n head tail : ℕ) → ((i : ℕ) → getD s i 0 < 256) → T (all byte w) → length w ≡ n → 4 ≤ n → head ≡ headOf w → tail ≡ tailOf w

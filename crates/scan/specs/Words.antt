@@ -3,12 +3,14 @@
 --   little s             the bytes of s as one number
 --   reach n              how many bytes of a word of n are one such number: eight, or four of a word below eight bytes
 --   headOf w, tailOf w   the first and the last bytes of w, so many, as a number
+--   Ends w n head tail   w is n bytes with these ends
 use Prim.Native.Nat.{ℕ, _+_, _*_, _-_}
 use mathlib.Core.Bool.{Bool, true, false}
 use mathlib.Core.List.{[], _∷_}
-use lib.Dec.{ltb}
+use mathlib.Core.Path.{_≡_}
+use lib.Dec.{T, ltb}
 use lib.ListN.{length, take, drop}
-use Rattle.laws.specs.Bytes.{Bytes}
+use Rattle.laws.specs.Bytes.{Bytes, all}
 
 abbrev pub byte : ℕ → Bool
 byte c = ltb c 256
@@ -25,3 +27,9 @@ headOf w = little (take (reach (length w)) w)
 
 unfoldable pub tailOf : Bytes → ℕ
 tailOf w = little (drop (length w - reach (length w)) w)
+
+pub record Ends (w : Bytes) (n head tail : ℕ) : Type 0 where
+  pub bytes : T (all byte w)
+  pub long : length w ≡ n
+  pub first : headOf w ≡ head
+  pub last : tailOf w ≡ tail

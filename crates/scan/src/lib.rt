@@ -2,11 +2,11 @@
 ghost use mathlib.Core.Path.{_≡_};
 ghost use mathlib.Core.Bool.{true};
 ghost use Prim.Native.Nat.{_+_, _≤_, _<_, max};
-ghost use lib.Dec.{eqb};
+ghost use lib.Dec.{T, eqb};
 ghost use lib.ListN.{length, take, drop};
-ghost use Rattle.laws.specs.Bytes.{span};
+ghost use Rattle.laws.specs.Bytes.{Bytes, all, span};
 ghost use Rattle.tree.specs.Form.{white, inText, inRun, common};
-ghost use Rattle.scan.specs.Words.{little, headOf, tailOf};
+ghost use Rattle.scan.specs.Words.{byte, little, reach, headOf, tailOf, Ends};
 use tree::Kind;
 
 // How many bytes of `word` stand at `at`.
@@ -51,6 +51,13 @@ pub fn word_at(s: &[u8], at: usize) -> u64
     half_at(s, at) + half_at(s, at + 4) * 4294967296
 }
 
+// How many bytes of a word of n bytes make an end of it: four of n below eight, else eight.
+fn reach_of(n: usize) -> usize
+    ensures { λ r. ⌜ r ≡ reach n ⌝ }
+{
+    if n < 8 { 4 } else { 8 }
+}
+
 // Are there n bytes from `at` on, 16 at most, and are the first of them those of the number `head`: four of n below eight, else eight? No may also be that n is
 // too large for that.
 pub fn starts(s: &[u8], at: usize, n: usize, head: u64) -> bool
@@ -78,6 +85,40 @@ pub fn ends(s: &[u8], at: usize, n: usize, tail: u64) -> bool
         return half_at(s, at + (n - 4)) == tail;
     }
     word_at(s, at + (n - 8)) == tail
+}
+
+// How many bytes of a word of n bytes, which is this number low byte first, stand at `at`.
+fn little_agrees(s: &[u8], at: usize, n: usize, word: u64) -> usize
+    requires { ⌜ at ≤ length (now s) ⌝ }
+    ensures inside { λ r. ⌜ (r ≤ n) × (at + r ≤ length (now (s .entry))) ⌝ }
+    ensures exact { λ r. ⌜ ((w : Bytes) → T (all byte w) → length w ≡ n → little w ≡ word → r ≡ common (drop at (now (s .entry))) w) ⌝ }
+{
+    let mut i: usize = 0;
+    let mut rest = word;
+    while i < n {
+        if at + i == s.len() {
+            return i;
+        }
+        if wide(s[at + i]) != rest % 256 {
+            return i;
+        }
+        rest = rest / 256;
+        i += 1;
+    }
+    i
+}
+
+// How many bytes of a word of n bytes with these ends stand at `at`.
+pub fn ends_agree(s: &[u8], at: usize, n: usize, head: u64, tail: u64) -> usize
+    requires { ⌜ (at ≤ length (now s)) × ((4 ≤ n) × (n ≤ 16)) ⌝ }
+    ensures { λ r. ⌜ ((w : Bytes) → Ends w n head tail → r ≡ common (drop at (now (s .entry))) w) ⌝ }
+{
+    let k = reach_of(n);
+    let m = little_agrees(s, at, k, head);
+    if m < k {
+        return m;
+    }
+    n - k + little_agrees(s, at + (n - k), k, tail)
 }
 
 // Space, tab, CR or LF.

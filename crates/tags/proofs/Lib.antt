@@ -1,2 +1,2 @@
--- Placed   where the tags stand, and that each is four bytes at least
-pub mod Placed
+-- Sizes   a tag is bytes, four of them at least, and how many at most
+pub mod Sizes

@@ -3,10 +3,9 @@
 --   elements, elementCount  those of the tree, and how many they are
 --   elementAt i             the element with a number
 --   openTag i, closeTag i   its tags
---   tags, tagsBefore i      the tags of all elements, each element's opening tag before its closing tag; how many bytes stand before those of the element i
 use Prim.Native.Nat.{ℕ}
 use mathlib.Core.List.{List, [], _∷_, _++_}
-use lib.ListN.{length, take, getD}
+use lib.ListN.{getD}
 use Rattle.laws.specs.Bytes.{Bytes}
 use Rattle.tree.specs.Form.{Elem, Items, elem, none, item, opening, closing}
 use Rattle.tree.specs.Pain008.{Document}
@@ -33,13 +32,3 @@ openTag i = opening (elementAt i)
 
 unfoldable pub closeTag : ℕ → Bytes
 closeTag i = closing (elementAt i)
-
-abbrev pub allTags : List Elem → Bytes
-allTags [] = []
-allTags (e ∷ es) = opening e ++ (closing e ++ allTags es)
-
-unfoldable pub tags : Bytes
-tags = allTags elements
-
-unfoldable pub tagsBefore : ℕ → ℕ
-tagsBefore i = length (allTags (take i elements))

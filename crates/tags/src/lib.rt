@@ -1,18 +1,14 @@
-// The tags of the profile tree: one row of them all, their lengths by an element's number, and how much of a tag stands at a place.
+// The tags of the profile tree by an element's number: their lengths, and how much of a tag stands at a place.
 // A table is a `match` on a number, which costs a few instructions; a constant array is made anew on the stack at each use. tools/tables prints them.
 //
 //   words    the ends of the tags as numbers
 ghost use mathlib.Core.Path.{_≡_};
-ghost use Prim.Native.Nat.{_-_, _≤_, _<_};
-ghost use lib.ListN.{length, take, drop};
+ghost use Prim.Native.Nat.{_≤_, _<_};
+ghost use lib.ListN.{length, drop};
 ghost use Rattle.tree.specs.Form.{common};
-ghost use Rattle.tags.specs.Tags.{elementCount, openTag, closeTag, tags, tagsBefore};
+ghost use Rattle.tags.specs.Tags.{elementCount, openTag, closeTag};
 
 pub mod words;
-
-// Each element's opening tag and closing tag, in the order of the opening tags.
-const TAGS: [u8; 1132] =
-    *b"<Document xmlns=\"urn:iso:std:iso:20022:tech:xsd:pain.008.001.08\"></Document><CstmrDrctDbtInitn></CstmrDrctDbtInitn><GrpHdr></GrpHdr><MsgId></MsgId><CreDtTm></CreDtTm><NbOfTxs></NbOfTxs><CtrlSum></CtrlSum><InitgPty></InitgPty><Nm></Nm><PmtInf></PmtInf><PmtInfId></PmtInfId><PmtMtd></PmtMtd><BtchBookg></BtchBookg><NbOfTxs></NbOfTxs><CtrlSum></CtrlSum><PmtTpInf></PmtTpInf><SvcLvl></SvcLvl><Cd></Cd><LclInstrm></LclInstrm><Cd></Cd><SeqTp></SeqTp><ReqdColltnDt></ReqdColltnDt><Cdtr></Cdtr><Nm></Nm><CdtrAcct></CdtrAcct><Id></Id><IBAN></IBAN><CdtrAgt></CdtrAgt><FinInstnId></FinInstnId><BICFI></BICFI><Othr></Othr><Id></Id><ChrgBr></ChrgBr><CdtrSchmeId></CdtrSchmeId><Id></Id><PrvtId></PrvtId><Othr></Othr><Id></Id><SchmeNm></SchmeNm><Prtry></Prtry><DrctDbtTxInf></DrctDbtTxInf><PmtId></PmtId><InstrId></InstrId><EndToEndId></EndToEndId><InstdAmt Ccy=\"EUR\"></InstdAmt><DrctDbtTx></DrctDbtTx><MndtRltdInf></MndtRltdInf><MndtId></MndtId><DtOfSgntr></DtOfSgntr><DbtrAgt></DbtrAgt><FinInstnId></FinInstnId><BICFI></BICFI><Othr></Othr><Id></Id><Dbtr></Dbtr><Nm></Nm><DbtrAcct></DbtrAcct><Id></Id><IBAN></IBAN><RmtInf></RmtInf><Ustrd></Ustrd>";
 
 // ─── an element's tags, by its number ───
 
@@ -156,94 +152,29 @@ pub fn close_length(e: usize) -> usize
     }
 }
 
-// Where its opening tag starts among the tags; its closing tag stands behind that.
-fn open_start(e: usize) -> usize
-    requires { ⌜ e < elementCount ⌝ }
-    ensures { λ r. ⌜ r ≡ tagsBefore e ⌝ }
-{
-    match e {
-        0 => 0,
-        1 => 76,
-        2 => 115,
-        3 => 132,
-        4 => 147,
-        5 => 166,
-        6 => 185,
-        7 => 204,
-        8 => 225,
-        9 => 234,
-        10 => 251,
-        11 => 272,
-        12 => 289,
-        13 => 312,
-        14 => 331,
-        15 => 350,
-        16 => 371,
-        17 => 388,
-        18 => 397,
-        19 => 420,
-        20 => 429,
-        21 => 444,
-        22 => 473,
-        23 => 486,
-        24 => 495,
-        25 => 516,
-        26 => 525,
-        27 => 538,
-        28 => 557,
-        29 => 582,
-        30 => 597,
-        31 => 610,
-        32 => 619,
-        33 => 636,
-        34 => 663,
-        35 => 672,
-        36 => 689,
-        37 => 702,
-        38 => 711,
-        39 => 730,
-        40 => 745,
-        41 => 774,
-        42 => 789,
-        43 => 808,
-        44 => 833,
-        45 => 864,
-        46 => 887,
-        47 => 914,
-        48 => 931,
-        49 => 954,
-        50 => 973,
-        51 => 998,
-        52 => 1013,
-        53 => 1026,
-        54 => 1035,
-        55 => 1048,
-        56 => 1057,
-        57 => 1078,
-        58 => 1087,
-        59 => 1100,
-        _ => 1117,
-    }
-}
-
 // ─── the tags at a place ───
 
-// How many bytes of the stretch of the tags from `from` to `to` stand at a place.
-fn agrees(s: &[u8], at: usize, from: usize, to: usize) -> usize
-    requires { ⌜ (at ≤ length (now s)) × ((from ≤ to) × (to ≤ length tags)) ⌝ }
-    ensures { λ r. ⌜ r ≡ common (drop at (now (s .entry))) (take (to - from) (drop from tags)) ⌝ }
-{
-    scan::agrees(s, at, &TAGS[from..to])
-}
-
-// How many bytes of an element's opening tag stand at a place, byte by byte.
+// How many bytes of an element's opening tag stand at a place: by its ends, but for the tags of more than 16 bytes.
 fn open_agrees(s: &[u8], at: usize, e: usize) -> usize
     requires { ⌜ (at ≤ length (now s)) × (e < elementCount) ⌝ }
     ensures { λ r. ⌜ r ≡ common (drop at (now (s .entry))) (openTag e) ⌝ }
 {
-    let from = open_start(e);
-    let n = open_length(e);
-    agrees(s, at, from, from + n)
+    match e {
+        0 => scan::agrees(
+            s,
+            at,
+            b"<Document xmlns=\"urn:iso:std:iso:20022:tech:xsd:pain.008.001.08\">",
+        ),
+        1 => scan::agrees(s, at, b"<CstmrDrctDbtInitn>"),
+        44 => scan::agrees(s, at, b"<InstdAmt Ccy=\"EUR\">"),
+        _ => scan::ends_agree(
+            s,
+            at,
+            open_length(e),
+            words::open_head(e),
+            words::open_tail(e),
+        ),
+    }
 }
 
 // How many bytes of its closing tag.
@@ -251,9 +182,16 @@ fn close_agrees(s: &[u8], at: usize, e: usize) -> usize
     requires { ⌜ (at ≤ length (now s)) × (e < elementCount) ⌝ }
     ensures { λ r. ⌜ r ≡ common (drop at (now (s .entry))) (closeTag e) ⌝ }
 {
-    let from = open_start(e) + open_length(e);
-    let n = close_length(e);
-    agrees(s, at, from, from + n)
+    match e {
+        1 => scan::agrees(s, at, b"</CstmrDrctDbtInitn>"),
+        _ => scan::ends_agree(
+            s,
+            at,
+            close_length(e),
+            words::close_head(e),
+            words::close_tail(e),
+        ),
+    }
 }
 
 // How many bytes of an element's opening tag stand at a place: all of them, where the bytes there have both its ends.

@@ -1,10 +1,10 @@
-// The ends of the tags as numbers, by an element's number: four bytes of a tag below eight bytes, else eight.
+// The ends of the tags as numbers, by an element's number: eight bytes at each end, or four of a tag below eight bytes.
 ghost use mathlib.Core.Path.{_≡_};
 ghost use Prim.Native.Nat.{_<_};
 ghost use Rattle.scan.specs.Words.{headOf, tailOf};
 ghost use Rattle.tags.specs.Tags.{elementCount, openTag, closeTag};
 
-// The first bytes of an element's opening tag as a number: four of a tag below eight bytes, else eight.
+// The first bytes of an element's opening tag.
 pub fn open_head(e: usize) -> u64
     requires { ⌜ e < elementCount ⌝ }
     ensures { λ r. ⌜ r ≡ headOf (openTag e) ⌝ }
@@ -74,7 +74,7 @@ pub fn open_head(e: usize) -> u64
     }
 }
 
-// The last bytes of its opening tag, as many.
+// The last bytes of its opening tag.
 pub fn open_tail(e: usize) -> u64
     requires { ⌜ e < elementCount ⌝ }
     ensures { λ r. ⌜ r ≡ tailOf (openTag e) ⌝ }
@@ -214,7 +214,7 @@ pub fn close_head(e: usize) -> u64
     }
 }
 
-// The last bytes of its closing tag, as many.
+// The last bytes of its closing tag.
 pub fn close_tail(e: usize) -> u64
     requires { ⌜ e < elementCount ⌝ }
     ensures { λ r. ⌜ r ≡ tailOf (closeTag e) ⌝ }

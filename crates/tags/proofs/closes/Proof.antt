@@ -3,7 +3,7 @@ use mathlib.Core.Path.{sym, _∙_}
 use native.Mathlib.Omega.{arith}
 use Rattle.scan.proofs.Words.{stands}
 use Rattle.tags.specs.Tags.{closeTag}
-use Rattle.tags.proofs.Placed.{close-placed}
+use Rattle.tags.proofs.Sizes.{close-tag}
 use borrow.Author.Needs.{needs}
 use Rattle.tags.proofs.closes.Statement.{statement}
 use Rattle.tags.proofs.closes.Tie as tie
@@ -15,19 +15,19 @@ close-head-requires : tie.Need-close-head-requires
 close-head-requires c κs = search needs
 
 starts-requires : tie.Need-starts-requires
-starts-requires c κs = omega (arith, close-placed _ (c .before .before .before .pre .1) .least)
+starts-requires c κs = omega (arith, close-tag _ (c .before .before .before .pre .1) .least)
 
 close-tail-requires : tie.Need-close-tail-requires
 close-tail-requires c κs = search needs
 
 ends-requires : tie.Need-ends-requires
 ends-requires c κs =
-    omega (arith, c .before .before .starts .ensures (c .before .if1 .taken) .0, close-placed _ (c .before .before .before .before .before .before .pre .1) .least)
+    omega (arith, c .before .before .starts .ensures (c .before .if1 .taken) .0, close-tag _ (c .before .before .before .before .before .before .pre .1) .least)
 
 returns : tie.Need-returns
 returns c =
     let a = c .before .before .before .before .before .before .before .before .args in
-    let p = close-placed _ (c .before .before .before .before .before .before .before .before .pre .1) in
+    let p = close-tag _ (c .before .before .before .before .before .before .before .before .pre .1) in
     let n = c .before .before .before .before .before .before .close-length .ensures in
     stands (a .s .now) (closeTag (a .e)) (a .at) _ _ _ (λ i. omega (arith, c .before .before .before .before .before .before .before .shared-slice-known .given i)) (p .bytes)
     (sym n) (omega (arith, n, p .least))

@@ -3,7 +3,7 @@ use mathlib.Core.Path.{sym, _∙_}
 use native.Mathlib.Omega.{arith}
 use Rattle.scan.proofs.Words.{stands}
 use Rattle.tags.specs.Tags.{openTag}
-use Rattle.tags.proofs.Placed.{open-placed}
+use Rattle.tags.proofs.Sizes.{open-tag}
 use borrow.Author.Needs.{needs}
 use Rattle.tags.proofs.opens.Statement.{statement}
 use Rattle.tags.proofs.opens.Tie as tie
@@ -15,19 +15,19 @@ open-head-requires : tie.Need-open-head-requires
 open-head-requires c κs = search needs
 
 starts-requires : tie.Need-starts-requires
-starts-requires c κs = omega (arith, open-placed _ (c .before .before .before .pre .1) .least)
+starts-requires c κs = omega (arith, open-tag _ (c .before .before .before .pre .1) .least)
 
 open-tail-requires : tie.Need-open-tail-requires
 open-tail-requires c κs = search needs
 
 ends-requires : tie.Need-ends-requires
 ends-requires c κs =
-    omega (arith, c .before .before .starts .ensures (c .before .if1 .taken) .0, open-placed _ (c .before .before .before .before .before .before .pre .1) .least)
+    omega (arith, c .before .before .starts .ensures (c .before .if1 .taken) .0, open-tag _ (c .before .before .before .before .before .before .pre .1) .least)
 
 returns : tie.Need-returns
 returns c =
     let a = c .before .before .before .before .before .before .before .before .args in
-    let p = open-placed _ (c .before .before .before .before .before .before .before .before .pre .1) in
+    let p = open-tag _ (c .before .before .before .before .before .before .before .before .pre .1) in
     let n = c .before .before .before .before .before .before .open-length .ensures in
     stands (a .s .now) (openTag (a .e)) (a .at) _ _ _ (λ i. omega (arith, c .before .before .before .before .before .before .before .shared-slice-known .given i)) (p .bytes)
     (sym n) (omega (arith, n, p .least))

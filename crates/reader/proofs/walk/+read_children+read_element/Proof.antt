@@ -15,7 +15,7 @@ use Rattle.scan.proofs.Scans.{common-in, run-in}
 use Rattle.table.specs.Table.{rowsEnd}
 use Rattle.table.proofs.Fits.{fits}
 use Rattle.table.proofs.Held.{first-inside, led}
-use Rattle.tags.proofs.Placed.{open-placed}
+use Rattle.tags.proofs.Sizes.{open-tag}
 use Rattle.reader.proofs.Going.{Kept, room-is, going-start, going-skip, going-stuck, going-child, going-lost, going-close, element-read, fine-from, fine-ended, closed-fine}
 use borrow.Fn.Kinds.{In}
 use borrow.Fn.PlainCycle.{Measures, is, falls, and}
@@ -278,7 +278,7 @@ read-element-sub-t12 t c = run-in _ _ _ _ (room-is _ _ _ _ _ (c .before .before 
 
 read-element-on-event-requires : (t : ℕ) → read-element-lts.Need-on-event-requires (read-element-calls t) (read-element-at t) read-element.Post
 read-element-on-event-requires t c κs = let q = room-is _ _ _ _ _ (c .before .before .before .before .before .before .before .before .before .before .before .pre .1) (c .before .before .before .before .open-length .ensures) in
-    let p = open-placed _ (c .before .before .before .before .before .before .before .before .before .before .before .pre .1 .known) .least in
+    let p = open-tag _ (c .before .before .before .before .before .before .before .before .before .before .before .pre .1 .known) .least in
     let w = run-in _ _ _ _ q (c .before .before .before .run-end .ensures) in
     let f = fits _ (c .before .before .before .before .before .before .before .before .before .before .before .pre .1 .known) in (
       c .before .before .before .before .before .before .before .before .before .before .before .pre .1 .long,
@@ -295,7 +295,7 @@ read-element-on-event-requires t c κs = let q = room-is _ _ _ _ _ (c .before .b
 
 read-element-read-children-requires : (t : ℕ) → read-element-lts.Need-read-children-requires (read-element-calls t) (read-element-at t) read-element.Post
 read-element-read-children-requires t c κs = let q = room-is _ _ _ _ _ (c .before .before .before .before .before .before .before .before .before .before .before .before .before .before .before .before .before .before .before .before .before .pre .1) (c .before .before .before .before .before .before .before .before .before .before .before .before .before .before .open-length .ensures) in
-    let p = open-placed _ (c .before .before .before .before .before .before .before .before .before .before .before .before .before .before .before .before .before .before .before .before .before .pre .1 .known) .least in
+    let p = open-tag _ (c .before .before .before .before .before .before .before .before .before .before .before .before .before .before .before .before .before .before .before .before .before .pre .1 .known) .least in
     let w = run-in _ _ _ _ q (c .before .before .before .before .before .before .before .before .before .before .before .before .before .run-end .ensures) in
     let m = c .before .before .before .before .before .before .before .before .before .before .before .before .before .before .before .before .before .before .before .before .before .pre .0 in (
       omega (arith, c .before .before .before .before .before .before .before .before .before .before .before .before .before .before .open-length .ensures),
