@@ -7,6 +7,8 @@
 --   fault-count, fault-sum, fault-none, after-none   the fault of a batch, and the first fault
 --   close-some                                       a batch is open
 --   faulted-none, faulted-some, tallied-none, tallied-some   no batch is open, or one
+--   header-said, batch-said, slip-said               what an event says of the header, of the open batch and of the open transaction, field by field
+--   began-said, added-said                           a batch begins, or a transaction
 --   said-all                                         what an event says, field by field
 --   step-batch, step-transaction, step-other         the step, by the part of the event
 use Prim.Native.Nat.{ℕ, zero, suc, _+_}
@@ -31,13 +33,14 @@ use Rattle.state.specs.declared.Over.the-variants.{At as OverAt}
 use Rattle.state.specs.declared.Limited.{Limited}
 use Rattle.state.specs.declared.FirstBad.{FirstBad}
 use Rattle.state.specs.declared.Header.{Header}
+use Rattle.state.specs.declared.Span.{Span}
 use Rattle.state.specs.declared.Slip.{Slip}
 use Rattle.state.specs.declared.BatchFault.{BatchFault}
 use Rattle.state.specs.declared.BatchFault.the-variants.{None as NoFault, Count as WrongCount, Sum as WrongSum}
 use Rattle.state.specs.declared.Open.{Open}
 use Rattle.state.specs.declared.Open.the-variants.{Nothing, Cents as OpenCents}
 use Rattle.state.specs.declared.State.{State}
-use Rattle.state.specs.State.{pick, badStep, headerStep, holding, declaring, slipStep, limitStep, countSaid, sumSaid, settled, amounting, amountStep, openStep, faultOf, faultAfter, closeIf, faulted, tallied, began, added, saying, step}
+use Rattle.state.specs.State.{pick, badStep, headerStep, holding, declaring, spanSaid, slipStep, limitStep, countSaid, sumSaid, settled, amounting, amountStep, openStep, faultOf, faultAfter, closeIf, faulted, tallied, renewed, began, added, saying, step}
 
 -- ─── an event of a part, or of another ───
 
@@ -127,7 +130,34 @@ module _ (st : State) where
   pub tallied-some : (y r : Tally) → (st .batches .count ≡ 0 → ⊥) → y ≡ settled (st .tally) (st .«open») → r ≡ closed y → r ≡ tallied st
   tallied-some y r h e f = f ∙ ap closed e ∙ close-some (st .batches .count) _ _ h
 
+-- ─── what an event says, field by field ───
+
+pub header-said : (h : Header) (t : Told) (a : DeclaredCount) (p : ℕ) (b : DeclaredSum) (q : ℕ)
+    → a ≡ pick (is part.messageCount t) (countSaid t) (h .«declared_count») → p ≡ pick (is part.messageCount t) (t .start) (h .«count_at»)
+    → b ≡ pick (is part.messageSum t) (sumSaid t) (h .«declared_sum») → q ≡ pick (is part.messageSum t) (t .start) (h .«sum_at»)
+    → record { «declared_count» = a; «count_at» = p; «declared_sum» = b; «sum_at» = q } ≡ headerStep h t
+header-said h t a p b q e1 e2 e3 e4 = rw (e1, e2, e3, e4) refl
+
+pub batch-said : (b : Batch) (t : Told) (x : DeclaredCount) (y : DeclaredSum)
+    → x ≡ pick (is part.batchCount t) (countSaid t) (b .«declared_count») → y ≡ pick (is part.batchSum t) (sumSaid t) (b .«declared_sum»)
+    → record { count = b .count; sum = b .sum; «declared_count» = x; «declared_sum» = y } ≡ declaring b t
+batch-said b t x y e1 e2 = rw (e1, e2) refl
+
+pub slip-said : (s : Slip) (t : Told) (a b c d e : Span)
+    → a ≡ pick (is part.endToEnd t) (spanSaid t) (s .«end_to_end») → b ≡ pick (is part.mandate t) (spanSaid t) (s .mandate)
+    → c ≡ pick (is part.debtorName t) (spanSaid t) (s .«debtor_name») → d ≡ pick (is part.debtorAccount t) (spanSaid t) (s .«debtor_account»)
+    → e ≡ pick (is part.remittance t) (spanSaid t) (s .remittance)
+    → record { «end_to_end» = a; mandate = b; «debtor_name» = c; «debtor_account» = d; remittance = e } ≡ slipStep s t
+slip-said s t a b c d e e1 e2 e3 e4 e5 = rw (e1, e2, e3, e4, e5) refl
+
 -- ─── the state ───
+
+pub began-said : (st : State) (f : BatchFault) (y : Tally) (r : State) → f ≡ faulted st → y ≡ tallied st → r ≡ renewed st f y 0 0 0 0 → r ≡ began st
+began-said st f y r e1 e2 g = g ∙ ap (λ (x : BatchFault). renewed st x y 0 0 0 0) e1 ∙ ap (λ (x : Tally). renewed st (faulted st) x 0 0 0 0) e2
+
+pub added-said : (st : State) (y : Tally) (r : State) → y ≡ settled (st .tally) (st .«open»)
+    → r ≡ renewed st (st .fault) y (st .«count_at») (st .«sum_at») (st .scheme) (st .sequence) → r ≡ added st
+added-said st y r e g = g ∙ ap (λ (x : Tally). renewed st (st .fault) x (st .«count_at») (st .«sum_at») (st .scheme) (st .sequence)) e
 
 pub said-all : (st : State) (t : Told) (b : FirstBad) (k n : Limited) (h : Header) (y : Tally) (p q x z : ℕ) (o : Open) (s : Slip)
     → b ≡ badStep (st .bad) t → k ≡ limitStep part.batch mostBatches (st .batches) t → n ≡ limitStep part.transaction mostTransactions (st .transactions) t

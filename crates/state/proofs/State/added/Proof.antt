@@ -1,4 +1,5 @@
 -- `state::State::added` meets its contract.
+use Rattle.state.proofs.Steps.{added-said}
 use borrow.Author.Needs.{needs}
 use Rattle.state.proofs.State.added.Statement.{statement}
 use Rattle.state.proofs.State.added.Tie as tie
@@ -10,7 +11,7 @@ renewed-requires : tie.Need-renewed-requires
 renewed-requires c κs = search needs
 
 returns : tie.Need-returns
-returns c = cc
+returns c = added-said (c .before .before .before .args .self) _ _ (c .before .settle .ensures) (c .renewed .ensures)
 
 pub added-spec : {M : Type 1} → statement M
 added-spec = tie.close (tie.spec settle-requires renewed-requires returns)
