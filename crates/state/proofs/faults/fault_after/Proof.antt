@@ -1,5 +1,6 @@
 -- `state::faults::fault_after` meets its contract, arm by arm.
 use Rattle.state.proofs.Steps.{after-none}
+use mathlib.Core.Path.{refl}
 use borrow.Author.Needs.{needs}
 use Rattle.state.proofs.faults.fault_after.Statement.{statement}
 use Rattle.state.proofs.faults.fault_after.Tie as tie
@@ -17,10 +18,10 @@ fault-of-requires : tie.Need-fault-of-requires
 fault-of-requires c κs = search needs
 
 returns : tie.Need-returns
-returns c = cc
+returns c = rw (c .before .f .given .1) refl
 
 returns-2 : tie.Need-returns-2
-returns-2 c = cc
+returns-2 c = rw (c .before .f2 .given .1) refl
 
 returns-3 : tie.Need-returns-3
 returns-3 c = after-none (c .before .before .before .args .f) (c .before .before .before .args .b) (c .before .before .before .args .count-at) (c .before .before .before .args .sum-at) _ (c .before .enum-told .given .1) (c .fault-of .ensures)
