@@ -56,6 +56,7 @@ carried s c (e ∷ es) = carried s (carryStep c (told s e)) es
 
 -- the tables never enter the state
 alone : (c : Carried) (ts : List Told) → (fold carryStep c ts) .state ≡ fold step (c .state) ts
+unfolding carryStep
 alone c ts = project carryStep step (λ (x : Carried). x .state) (λ x t. refl) c ts
 
 module _ (s : Bytes) (slips rows : List ℕ) (st : State) (a b : List ℕ) where

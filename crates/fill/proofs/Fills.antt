@@ -107,17 +107,21 @@ module _ (st : State) (t : Told) (slips rows : List ℕ) where
   entry = record { state = st; slips = slips; rows = rows }
 
   pub rows-batch : (xs ys : List ℕ) → t .part ≡ part.batch → xs ≡ filledSlips entry → ys ≡ filledRows entry → (xs ≡ carryStep entry t .slips) × (ys ≡ carryStep entry t .rows)
+  unfolding carryStep
   rows-batch xs ys p x y = (rw (eq-eqb (t .part) part.batch p) x, rw (eq-eqb (t .part) part.batch p) y)
 
   pub rows-transaction : (xs : List ℕ) → (t .part ≡ part.batch → ⊥) → t .part ≡ part.transaction → xs ≡ filledSlips entry
       → (xs ≡ carryStep entry t .slips) × (rows ≡ carryStep entry t .rows)
+  unfolding carryStep
   rows-transaction xs n p x = (rw (ne-eqb (t .part) part.batch n, eq-eqb (t .part) part.transaction p) x, rw (ne-eqb (t .part) part.batch n) refl)
 
   pub rows-other : (t .part ≡ part.batch → ⊥) → (t .part ≡ part.transaction → ⊥) → (slips ≡ carryStep entry t .slips) × (rows ≡ carryStep entry t .rows)
+  unfolding carryStep
   rows-other n p = (rw (ne-eqb (t .part) part.batch n, ne-eqb (t .part) part.transaction p) refl, rw (ne-eqb (t .part) part.batch n) refl)
 
   pub carried : (r : State) (xs ys : List ℕ) → r ≡ step st t → xs ≡ carryStep entry t .slips → ys ≡ carryStep entry t .rows
       → carryStep entry t ≡ record { state = r; slips = xs; rows = ys }
+  unfolding carryStep
   carried r xs ys g x y = rw (g, x, y) refl
 
 -- an event whose text was said in the kept row, or not

@@ -170,6 +170,7 @@ length-filled-rows c =
     go (suc k) m b u v = length-put-if (c .rows) (8 * c .state .tally .closed .batches) 8 (rowNumbers m b u v) (length-row-numbers m b u v)
 
 pub tables-kept : (c : Carried) (ts : List Told) → Kept c (fold carryStep c ts)
+unfolding carryStep
 tables-kept c ts =
     let d : Carried = fold carryStep c ts in
     let s : length (d .slips) ≡ length (c .slips) = stays carryStep (λ x. length (x .slips)) slips-kept c ts in

@@ -117,6 +117,7 @@ shelfOf c = record {
 }
 
 shelf-step : (c : Carried) (t : Told) → shelfOf (carryStep c t) ≡ turn part.batch shelfStep nextShelf (shelfOf c) t
+unfolding carryStep
 shelf-step c t =
     ap (λ (b : Books). record {
       books = b;

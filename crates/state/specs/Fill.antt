@@ -81,7 +81,7 @@ filledRows c =
     (putIf (c .rows) (8 * c .state .tally .closed .batches) 8
     (rowNumbers (c .state .tally .closed .transactions .0) (adding (c .state .tally .batch) (c .state .«open»)) (c .state .scheme) (c .state .sequence)))
 
-abbrev pub carryStep : Carried → Told → Carried
+unfoldable pub carryStep : Carried → Told → Carried
 carryStep c t = record {
   state = step (c .state) t;
   slips = pick (is part.batch t) (filledSlips c) (pick (is part.transaction t) (filledSlips c) (c .slips));
