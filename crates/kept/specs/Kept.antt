@@ -1,9 +1,9 @@
 -- THE STATE IN A ROW OF NUMBERS, as it is kept between two events. Not to be believed: no promise to a caller speaks of it.
 --   keptLength      how many numbers they are
---   stateOf ns      the state that they tell; headerOf, tallyOf, slipOf its parts
+--   stateOf ns      the state that they tell; caseOf, spanOf, limitedOf, headerOf, tallyOf, slipOf its parts
 --   Said b ns ms t  what the event t says is said in full, or nothing is changed
 --   badOf, overOf, countOf, sumOf, faultOf, openOf   a case in two numbers: a mark, 0 for the case that holds nothing, and the number that the case holds
-use Prim.Native.Nat.{ℕ}
+use Prim.Native.Nat.{ℕ, _+_}
 use mathlib.Core.Bool.{Bool, true, false}
 use mathlib.Core.List.{List, [], _∷_}
 use mathlib.Core.Path.{_≡_}
@@ -22,7 +22,9 @@ use Rattle.state.specs.declared.BatchFault.the-variants.{None as NoFault, Count
 use Rattle.state.specs.declared.Open.{Open}
 use Rattle.state.specs.declared.Open.the-variants.{Nothing, Cents as OpenCents}
 use Rattle.profile.specs.declared.Tally.{Tally}
+use Rattle.state.specs.declared.Limited.{Limited}
 use Rattle.state.specs.declared.Header.{Header}
+use Rattle.state.specs.declared.Span.{Span}
 use Rattle.state.specs.declared.Slip.{Slip}
 use Rattle.state.specs.declared.State.{State}
 use Rattle.tree.specs.Parts as part
@@ -54,14 +56,19 @@ openOf m n = closeIf m Nothing (OpenCents (record { 0 = n }))
 abbrev pub keptLength : ℕ
 keptLength = 41
 
+-- the case that two of the numbers tell, from a place on
+abbrev pub caseOf : {A : Type 0} → (ℕ → ℕ → A) → List ℕ → ℕ → A
+caseOf f ns i = f (getD ns i 0) (getD ns (i + 1) 0)
+
+abbrev pub spanOf : List ℕ → ℕ → Span
+spanOf ns i = record { start = getD ns i 0; length = getD ns (i + 1) 0 }
+
+abbrev pub limitedOf : List ℕ → ℕ → Limited
+limitedOf ns i = record { count = getD ns i 0; over = caseOf overOf ns (i + 1) }
+
 -- the numbers in the order of the state's fields
 abbrev pub headerOf : List ℕ → Header
-headerOf ns = record {
-  «declared_count» = countOf (getD ns 8 0) (getD ns 9 0);
-  «count_at» = getD ns 10 0;
-  «declared_sum» = sumOf (getD ns 11 0) (getD ns 12 0);
-  «sum_at» = getD ns 13 0;
-}
+headerOf ns = record { «declared_count» = caseOf countOf ns 8; «count_at» = getD ns 10 0; «declared_sum» = caseOf sumOf ns 11; «sum_at» = getD ns 13 0 }
 
 abbrev pub tallyOf : List ℕ → Tally
 tallyOf ns = record {
@@ -69,33 +76,27 @@ tallyOf ns = record {
   batch = record {
     count = record { 0 = getD ns 19 0 };
     sum = record { 0 = getD ns 20 0 };
-    «declared_count» = countOf (getD ns 21 0) (getD ns 22 0);
-    «declared_sum» = sumOf (getD ns 23 0) (getD ns 24 0);
+    «declared_count» = caseOf countOf ns 21;
+    «declared_sum» = caseOf sumOf ns 23;
   };
 }
 
 abbrev pub slipOf : List ℕ → Slip
-slipOf ns = record {
-  «end_to_end» = record { start = getD ns 31 0; length = getD ns 32 0 };
-  mandate = record { start = getD ns 33 0; length = getD ns 34 0 };
-  «debtor_name» = record { start = getD ns 35 0; length = getD ns 36 0 };
-  «debtor_account» = record { start = getD ns 37 0; length = getD ns 38 0 };
-  remittance = record { start = getD ns 39 0; length = getD ns 40 0 };
-}
+slipOf ns = record { «end_to_end» = spanOf ns 31; mandate = spanOf ns 33; «debtor_name» = spanOf ns 35; «debtor_account» = spanOf ns 37; remittance = spanOf ns 39 }
 
 unfoldable pub stateOf : List ℕ → State
 stateOf ns = record {
-  bad = badOf (getD ns 0 0) (getD ns 1 0);
-  batches = record { count = getD ns 2 0; over = overOf (getD ns 3 0) (getD ns 4 0) };
-  transactions = record { count = getD ns 5 0; over = overOf (getD ns 6 0) (getD ns 7 0) };
+  bad = caseOf badOf ns 0;
+  batches = limitedOf ns 2;
+  transactions = limitedOf ns 5;
   header = headerOf ns;
-  fault = faultOf (getD ns 14 0) (getD ns 15 0);
+  fault = caseOf faultOf ns 14;
   tally = tallyOf ns;
   «count_at» = getD ns 25 0;
   «sum_at» = getD ns 26 0;
   scheme = getD ns 27 0;
   sequence = getD ns 28 0;
-  «open» = openOf (getD ns 29 0) (getD ns 30 0);
+  «open» = caseOf openOf ns 29;
   slip = slipOf ns;
 }
 

@@ -1,7 +1,9 @@
 // The state that the numbers tell.
 ghost use mathlib.Core.Path.{_≡_};
-ghost use lib.ListN.{length};
-ghost use Rattle.kept.specs.Kept.{keptLength, headerOf, tallyOf, slipOf, stateOf, badOf, overOf, countOf, sumOf, faultOf, openOf};
+ghost use Prim.Native.Nat.{_+_, _<_};
+ghost use lib.ListN.{length, getD};
+ghost use Rattle.kept.specs.Kept.{keptLength, spanOf, limitedOf, headerOf, tallyOf, slipOf, stateOf, badOf, overOf, countOf, sumOf, faultOf, openOf};
+use crate::Marked;
 use profile::Batch;
 use profile::ControlSum;
 use profile::DeclaredCount;
@@ -84,14 +86,48 @@ fn open_of(mark: u64, cents: u64) -> Open
     Open::Cents(ControlSum(cents))
 }
 
+// Two of the numbers, from the place `at` on.
+fn case_of(kept: &[u64], at: usize) -> Marked
+    requires { ⌜ (length (now kept) ≡ keptLength) × (at + 1 < keptLength) ⌝ }
+    ensures { λ r. ⌜ (r .mark ≡ getD (now (kept .entry)) at 0) × (r .value ≡ getD (now (kept .entry)) (at + 1) 0) ⌝ }
+{
+    Marked {
+        mark: kept[at],
+        value: kept[at + 1],
+    }
+}
+
+fn span_of(kept: &[u64], at: usize) -> Span
+    requires { ⌜ (length (now kept) ≡ keptLength) × (at + 1 < keptLength) ⌝ }
+    ensures { λ r. ⌜ r ≡ spanOf (now (kept .entry)) at ⌝ }
+{
+    Span {
+        start: kept[at] as usize,
+        length: kept[at + 1] as usize,
+    }
+}
+
+fn limited_of(kept: &[u64], at: usize) -> Limited
+    requires { ⌜ (length (now kept) ≡ keptLength) × (at + 2 < keptLength) ⌝ }
+    ensures { λ r. ⌜ r ≡ limitedOf (now (kept .entry)) at ⌝ }
+{
+    let over = case_of(kept, at + 1);
+    Limited {
+        count: kept[at],
+        over: over_of(over.mark, over.value),
+    }
+}
+
 fn header_of(kept: &[u64]) -> Header
     requires { ⌜ length (now kept) ≡ keptLength ⌝ }
     ensures { λ r. ⌜ r ≡ headerOf (now (kept .entry)) ⌝ }
 {
+    let count = case_of(kept, 8);
+    let sum = case_of(kept, 11);
     Header {
-        declared_count: count_of(kept[8], kept[9]),
+        declared_count: count_of(count.mark, count.value),
         count_at: kept[10] as usize,
-        declared_sum: sum_of(kept[11], kept[12]),
+        declared_sum: sum_of(sum.mark, sum.value),
         sum_at: kept[13] as usize,
     }
 }
@@ -100,6 +136,8 @@ fn tally_of(kept: &[u64]) -> Tally
     requires { ⌜ length (now kept) ≡ keptLength ⌝ }
     ensures { λ r. ⌜ r ≡ tallyOf (now (kept .entry)) ⌝ }
 {
+    let count = case_of(kept, 21);
+    let sum = case_of(kept, 23);
     Tally {
         closed: Totals {
             batches: kept[16],
@@ -109,8 +147,8 @@ fn tally_of(kept: &[u64]) -> Tally
         batch: Batch {
             count: NumberOfTransactions(kept[19]),
             sum: ControlSum(kept[20]),
-            declared_count: count_of(kept[21], kept[22]),
-            declared_sum: sum_of(kept[23], kept[24]),
+            declared_count: count_of(count.mark, count.value),
+            declared_sum: sum_of(sum.mark, sum.value),
         },
     }
 }
@@ -120,26 +158,11 @@ fn slip_of(kept: &[u64]) -> Slip
     ensures { λ r. ⌜ r ≡ slipOf (now (kept .entry)) ⌝ }
 {
     Slip {
-        end_to_end: Span {
-            start: kept[31] as usize,
-            length: kept[32] as usize,
-        },
-        mandate: Span {
-            start: kept[33] as usize,
-            length: kept[34] as usize,
-        },
-        debtor_name: Span {
-            start: kept[35] as usize,
-            length: kept[36] as usize,
-        },
-        debtor_account: Span {
-            start: kept[37] as usize,
-            length: kept[38] as usize,
-        },
-        remittance: Span {
-            start: kept[39] as usize,
-            length: kept[40] as usize,
-        },
+        end_to_end: span_of(kept, 31),
+        mandate: span_of(kept, 33),
+        debtor_name: span_of(kept, 35),
+        debtor_account: span_of(kept, 37),
+        remittance: span_of(kept, 39),
     }
 }
 
@@ -148,27 +171,26 @@ pub fn state_of(kept: &[u64]) -> State
     requires { ⌜ length (now kept) ≡ keptLength ⌝ }
     ensures { λ r. ⌜ r ≡ stateOf (now (kept .entry)) ⌝ }
 {
+    let bad = case_of(kept, 0);
+    let batches = limited_of(kept, 2);
+    let transactions = limited_of(kept, 5);
     let header = header_of(kept);
+    let fault = case_of(kept, 14);
     let tally = tally_of(kept);
+    let open = case_of(kept, 29);
     let slip = slip_of(kept);
     State {
-        bad: bad_of(kept[0], kept[1]),
-        batches: Limited {
-            count: kept[2],
-            over: over_of(kept[3], kept[4]),
-        },
-        transactions: Limited {
-            count: kept[5],
-            over: over_of(kept[6], kept[7]),
-        },
+        bad: bad_of(bad.mark, bad.value),
+        batches,
+        transactions,
         header,
-        fault: fault_of(kept[14], kept[15]),
+        fault: fault_of(fault.mark, fault.value),
         tally,
         count_at: kept[25] as usize,
         sum_at: kept[26] as usize,
         scheme: kept[27],
         sequence: kept[28],
-        open: open_of(kept[29], kept[30]),
+        open: open_of(open.mark, open.value),
         slip,
     }
 }
