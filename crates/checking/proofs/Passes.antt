@@ -1,4 +1,4 @@
--- A PASS OF THE CHECK over the message's events answers, and fills the tables that it is lent; and the check makes of it.
+-- A PASS OF THE CHECK over the message's events, which answers and fills the tables that it is lent; and what the check makes of it.
 --   carried           what is carried over the events is what it is over what they say
 --   Read, read-said   what a message that was read says, and what was carried behind it
 --   small             what was read keeps its numbers small
