@@ -47,10 +47,10 @@ collectionBy worth text k = record {
   remittance = text part.remittance;
 }
 
--- a bank without a BICFI is NOTPROVIDED, which a collection frame has as the empty BIC; a missing RmtInf is no remittance
 abbrev pub termsFrom : Bytes → List Told → Terms
 termsFrom s p = termsBy (λ n. worthOf (the n p)) (λ n. textAt s (the n p))
 
+-- a bank without a BICFI is NOTPROVIDED, which a collection frame has as the empty BIC; a missing RmtInf is no remittance
 abbrev pub collectionFrom : Bytes → Terms → List Told → Collection
 collectionFrom s k p = collectionBy (λ n. worthOf (the n p)) (λ n. textAt s (the n p)) k
 
