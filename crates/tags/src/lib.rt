@@ -6,6 +6,7 @@ ghost use mathlib.Core.Path.{_≡_};
 ghost use Prim.Native.Nat.{_≤_, _<_};
 ghost use lib.ListN.{length, drop};
 ghost use Rattle.tree.specs.Form.{common};
+ghost use Rattle.scan.specs.Words.{Ends};
 ghost use Rattle.tags.specs.Tags.{elementCount, openTag, closeTag};
 
 pub mod words;
@@ -154,9 +155,9 @@ pub fn close_length(e: usize) -> usize
 
 // ─── the tags at a place ───
 
-// How many bytes of an element's opening tag stand at a place: by its ends, but for the tags of more than 16 bytes.
-fn open_agrees(s: &[u8], at: usize, e: usize) -> usize
-    requires { ⌜ (at ≤ length (now s)) × (e < elementCount) ⌝ }
+// How many bytes of an element's opening tag, which is n bytes with these ends, stand at a place: by the ends, but for the tags of more than 16 bytes.
+fn open_agrees(s: &[u8], at: usize, e: usize, n: usize, head: u64, tail: u64) -> usize
+    requires { ⌜ (at ≤ length (now s)) × ((e < elementCount) × Ends (openTag e) n head tail) ⌝ }
     ensures { λ r. ⌜ r ≡ common (drop at (now (s .entry))) (openTag e) ⌝ }
 {
     match e {
@@ -167,30 +168,18 @@ fn open_agrees(s: &[u8], at: usize, e: usize) -> usize
         ),
         1 => scan::agrees(s, at, b"<CstmrDrctDbtInitn>"),
         44 => scan::agrees(s, at, b"<InstdAmt Ccy=\"EUR\">"),
-        _ => scan::ends_agree(
-            s,
-            at,
-            open_length(e),
-            words::open_head(e),
-            words::open_tail(e),
-        ),
+        _ => scan::ends_agree(s, at, n, head, tail),
     }
 }
 
 // How many bytes of its closing tag.
-fn close_agrees(s: &[u8], at: usize, e: usize) -> usize
-    requires { ⌜ (at ≤ length (now s)) × (e < elementCount) ⌝ }
+fn close_agrees(s: &[u8], at: usize, e: usize, n: usize, head: u64, tail: u64) -> usize
+    requires { ⌜ (at ≤ length (now s)) × ((e < elementCount) × Ends (closeTag e) n head tail) ⌝ }
     ensures { λ r. ⌜ r ≡ common (drop at (now (s .entry))) (closeTag e) ⌝ }
 {
     match e {
         1 => scan::agrees(s, at, b"</CstmrDrctDbtInitn>"),
-        _ => scan::ends_agree(
-            s,
-            at,
-            close_length(e),
-            words::close_head(e),
-            words::close_tail(e),
-        ),
+        _ => scan::ends_agree(s, at, n, head, tail),
     }
 }
 
@@ -200,12 +189,14 @@ pub fn opens(s: &[u8], at: usize, e: usize) -> usize
     ensures { λ r. ⌜ r ≡ common (drop at (now (s .entry))) (openTag e) ⌝ }
 {
     let n = open_length(e);
-    if scan::starts(s, at, n, words::open_head(e)) {
-        if scan::ends(s, at, n, words::open_tail(e)) {
+    let head = words::open_head(e);
+    let tail = words::open_tail(e);
+    if scan::starts(s, at, n, head) {
+        if scan::ends(s, at, n, tail) {
             return n;
         }
     }
-    open_agrees(s, at, e)
+    open_agrees(s, at, e, n, head, tail)
 }
 
 // How many bytes of its closing tag.
@@ -214,10 +205,12 @@ pub fn closes(s: &[u8], at: usize, e: usize) -> usize
     ensures { λ r. ⌜ r ≡ common (drop at (now (s .entry))) (closeTag e) ⌝ }
 {
     let n = close_length(e);
-    if scan::starts(s, at, n, words::close_head(e)) {
-        if scan::ends(s, at, n, words::close_tail(e)) {
+    let head = words::close_head(e);
+    let tail = words::close_tail(e);
+    if scan::starts(s, at, n, head) {
+        if scan::ends(s, at, n, tail) {
             return n;
         }
     }
-    close_agrees(s, at, e)
+    close_agrees(s, at, e, n, head, tail)
 }

@@ -6,7 +6,7 @@ use lib.ListN.{drop}
 use Rattle.laws.proofs.Arms.{arm}
 use Rattle.tree.specs.Form.{common}
 use Rattle.tags.specs.Tags.{elements, elementAt, openTag}
-use Rattle.tags.proofs.Sizes.{open-tag, ends, open-short}
+use Rattle.tags.proofs.Sizes.{open-tag, open-short}
 use borrow.Author.Needs.{needs}
 use Rattle.tags.proofs.open_agrees.Statement.{statement}
 use Rattle.tags.proofs.open_agrees.Tie as tie
@@ -29,19 +29,10 @@ slice-aggregate-agrees-3 c = search needs
 agrees-requires-3 : tie.Need-agrees-requires-3
 agrees-requires-3 c κs = search needs
 
-open-length-requires : tie.Need-open-length-requires
-open-length-requires c κs = search needs
-
-open-head-requires : tie.Need-open-head-requires
-open-head-requires c κs = search needs
-
-open-tail-requires : tie.Need-open-tail-requires
-open-tail-requires c κs = search needs
-
 ends-agree-requires : tie.Need-ends-agree-requires
 ends-agree-requires c κs =
-    let h = c .before .before .before .before .before .pre .1 in
-    omega (arith, c .before .before .open-length .ensures, open-tag _ h .least, open-short _ h (c .before .before .before .match .rest))
+    let h = c .before .before .pre .1 in
+    omega (arith, h .1 .long, open-tag _ (h .0) .least, open-short _ (h .0) (c .match .rest))
 
 returns : tie.Need-returns
 unfolding elements elementAt openTag
@@ -63,8 +54,7 @@ returns-3 c =
 
 returns-4 : tie.Need-returns-4
 returns-4 c =
-    c .ends-agree .ensures _
-    (ends _ _ _ _ (open-tag _ (c .before .before .before .before .before .before .pre .1)) (c .before .before .before .open-length .ensures) (c .before .before .open-head .ensures) (c .before .open-tail .ensures))
+    c .ends-agree .ensures _ (c .before .before .before .pre .1 .1)
 
 pub open-agrees-spec : {M : Type 1} → statement M
 open-agrees-spec =
@@ -76,9 +66,6 @@ open-agrees-spec =
     agrees-requires-2
     slice-aggregate-agrees-3
     agrees-requires-3
-    open-length-requires
-    open-head-requires
-    open-tail-requires
     ends-agree-requires
     returns
     returns-2

@@ -3,7 +3,7 @@ use mathlib.Core.Path.{sym, _∙_}
 use native.Mathlib.Omega.{arith}
 use Rattle.scan.proofs.Words.{stands}
 use Rattle.tags.specs.Tags.{openTag}
-use Rattle.tags.proofs.Sizes.{open-tag}
+use Rattle.tags.proofs.Sizes.{open-tag, ends}
 use borrow.Author.Needs.{needs}
 use Rattle.tags.proofs.opens.Statement.{statement}
 use Rattle.tags.proofs.opens.Tie as tie
@@ -14,15 +14,15 @@ open-length-requires c κs = search needs
 open-head-requires : tie.Need-open-head-requires
 open-head-requires c κs = search needs
 
-starts-requires : tie.Need-starts-requires
-starts-requires c κs = omega (arith, open-tag _ (c .before .before .before .pre .1) .least)
-
 open-tail-requires : tie.Need-open-tail-requires
 open-tail-requires c κs = search needs
 
+starts-requires : tie.Need-starts-requires
+starts-requires c κs = omega (arith, open-tag _ (c .before .before .before .before .pre .1) .least)
+
 ends-requires : tie.Need-ends-requires
 ends-requires c κs =
-    omega (arith, c .before .before .starts .ensures (c .before .if1 .taken) .0, open-tag _ (c .before .before .before .before .before .before .pre .1) .least)
+    omega (arith, c .before .starts .ensures (c .if1 .taken) .0, open-tag _ (c .before .before .before .before .before .before .pre .1) .least)
 
 returns : tie.Need-returns
 returns c =
@@ -31,11 +31,13 @@ returns c =
     let n = c .before .before .before .before .before .before .open-length .ensures in
     stands (a .s .now) (openTag (a .e)) (a .at) _ _ _ (λ i. omega (arith, c .before .before .before .before .before .before .before .shared-slice-known .given i)) (p .bytes)
     (sym n) (omega (arith, n, p .least))
-    (c .before .before .before .before .before .open-head .ensures) (c .before .before .open-tail .ensures)
-    (c .before .before .before .before .starts .ensures (c .before .before .before .if1 .taken)) (sym (c .before .ends .ensures) ∙ c .if2 .taken)
+    (c .before .before .before .before .before .open-head .ensures) (c .before .before .before .before .open-tail .ensures)
+    (c .before .before .before .starts .ensures (c .before .before .if1 .taken)) (sym (c .before .ends .ensures) ∙ c .if2 .taken)
 
 open-agrees-requires : tie.Need-open-agrees-requires
-open-agrees-requires c κs = search needs
+open-agrees-requires c κs =
+    let h = c .before .before .before .before .before .before .pre in
+    (h .0, (h .1, ends _ _ _ _ (open-tag _ (h .1)) (c .before .before .before .before .open-length .ensures) (c .before .before .before .open-head .ensures) (c .before .before .open-tail .ensures)))
 
 returns-2 : tie.Need-returns-2
 returns-2 c = search needs
@@ -46,8 +48,8 @@ opens-spec =
     (tie.spec
     open-length-requires
     open-head-requires
-    starts-requires
     open-tail-requires
+    starts-requires
     ends-requires
     returns
     open-agrees-requires
