@@ -14,7 +14,7 @@ test:
 	./tools/test
 
 lib:
-	rt staticlib desk
+	./tools/lib
 
 desk: lib
 	./tools/link target/desk host/*.c
