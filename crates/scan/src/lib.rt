@@ -152,8 +152,8 @@ pub fn white_end(s: &[u8], at: usize) -> usize
     i
 }
 
-// Where the text that begins at `at` ends: at the next `<`, or at the end of the message.
-pub fn text_end(s: &[u8], at: usize) -> usize
+// Where the text that begins at `at` ends, byte by byte.
+fn text_rest(s: &[u8], at: usize) -> usize
     requires { ⌜ at ≤ length (now s) ⌝ }
     ensures { λ r. ⌜ r ≡ at + span inText (drop at (now (s .entry))) ⌝ }
 {
@@ -165,6 +165,30 @@ pub fn text_end(s: &[u8], at: usize) -> usize
         i += 1;
     }
     i
+}
+
+// Where the text that begins at `at` ends: at the next `<`, or at the end of the message. Four bytes are looked at in a round, while there are four.
+pub fn text_end(s: &[u8], at: usize) -> usize
+    requires { ⌜ at ≤ length (now s) ⌝ }
+    ensures { λ r. ⌜ r ≡ at + span inText (drop at (now (s .entry))) ⌝ }
+{
+    let mut i = at;
+    while 4 <= s.len() - i {
+        if s[i] == b'<' {
+            return i;
+        }
+        if s[i + 1] == b'<' {
+            return i + 1;
+        }
+        if s[i + 2] == b'<' {
+            return i + 2;
+        }
+        if s[i + 3] == b'<' {
+            return i + 3;
+        }
+        i += 4;
+    }
+    text_rest(s, i)
 }
 
 // Where the run of a kind that begins at `at` ends.
