@@ -1,20 +1,19 @@
 -- A CLOSING TAG, in plain variables.
 --   close-stuck, close-ended   it stands there in part, or whole
-use Prim.Native.Nat.{ℕ, _+_, _<_, _≤_, max}
-use mathlib.Core.Path.{_≡_, sym}
-use lib.ListN.{length, drop}
-use borrow.Author.Tests.{lt-ltb, le-ltb}
+use Prim.Native.Nat.{ℕ, max}
+use mathlib.Core.Path.{_≡_, sym, ap, _∙_}
 use Rattle.laws.specs.Bytes.{Bytes}
-use Rattle.tree.specs.Form.{common}
+use Rattle.tags.specs.declared.Found.{Found}
+use Rattle.tags.specs.declared.Found.the-variants.{Whole, Part}
+use Rattle.tags.specs.Tags.{closeTag, found}
 use Rattle.reader.specs.declared.walk.Reading.the-variants.{Ended, Stuck}
-use Rattle.tags.specs.Tags.{closeTag}
-use Rattle.reader.specs.Told.{closed}
+use Rattle.reader.specs.Told.{closedBy, closed}
 
-module _ (s : Bytes) (e far at n l : ℕ) (c : n ≡ common (drop at s) (closeTag e)) (q : l ≡ length (closeTag e)) where
-  pub close-stuck : (m : ℕ) → n < l → m ≡ max far (at + n) → Stuck m ≡ closed s e far at
+module _ (s : Bytes) (e far at : ℕ) (x : Found) (q : x ≡ found s at (closeTag e)) (p : ℕ) where
+  pub close-stuck : x ≡ Part p → (m : ℕ) → m ≡ max far p → Stuck m ≡ closed s e far at
   unfolding closed
-  close-stuck m k e = rw (e, sym c, sym q, lt-ltb n l k)
+  close-stuck h m k = ap Stuck k ∙ ap (closedBy far) (sym h ∙ q)
 
-  pub close-ended : l ≤ n → Ended (at + n) ≡ closed s e far at
+  pub close-ended : x ≡ Whole p → Ended p ≡ closed s e far at
   unfolding closed
-  close-ended k = rw (sym c, sym q, le-ltb n l k)
+  close-ended h = ap (closedBy far) (sym h ∙ q)

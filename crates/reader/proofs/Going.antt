@@ -8,7 +8,7 @@
 --   going-close            no child is left
 --   element-read           an element: its run, its event, its children
 --   Kept                   what a turn keeps
---   fine-from, fine-ended, closed-fine, room-is   of what is fine behind a place, and of the room for a tag
+--   fine-from, fine-ended, closed-fine   of what is fine behind a place
 use Prim.Native.Nat.{ℕ, zero, suc, _+_, _-_, _<_, _≤_, max}
 use native.Mathlib.Nat.{not-suc-le-zero, zero-max}
 use native.Mathlib.Omega.{arith}
@@ -16,10 +16,8 @@ use mathlib.Core.Bool.{Bool, true, false, not}
 use mathlib.Core.List.{List, [], _∷_, _++_}
 use mathlib.Core.Path.{_≡_, refl, ap, sym, subst, _∙_}
 use mathlib.Core.Logic.{_⊎_, inl, inr}
-use lib.Dec.{T, eqb, ltb}
+use lib.Dec.{T, eqb}
 use lib.ListN.{length, drop}
-use borrow.Author.Tests.{lt-ltb, le-ltb, ltb-false}
-use native.Mathlib.Decide.{decLt}
 use Rattle.laws.specs.Bytes.{Bytes, span}
 use Rattle.laws.proofs.Tests.{eqb-cases, eqb-comm, bool-cases}
 use Rattle.tree.specs.declared.Kind.{Kind}
@@ -33,15 +31,17 @@ use Rattle.kept.specs.Kept.{stateOf}
 use Rattle.table.specs.declared.Row.{Row}
 use Rattle.reader.specs.declared.walk.Reading.{Reading}
 use Rattle.reader.specs.declared.walk.Reading.the-variants.{Ended, Stuck}
+use Rattle.tags.specs.declared.Found.{Found}
+use Rattle.tags.specs.declared.Found.the-variants.{Whole, Part}
 use Rattle.tags.specs.Tags as tags
 use Rattle.table.specs.Table as table
 use Rattle.table.specs.Held.{holdsElem, holdsItems}
 use Rattle.reader.specs.Walk.{At, ended, halts, childrenAt, elementAt, othersAt, stepAt}
-use Rattle.reader.specs.Told.{told, closed, pick, Fine, Ready}
+use Rattle.reader.specs.Told.{told, closedBy, closed, Fine}
 use Rattle.reader.specs.Read.{carried}
-use Rattle.scan.proofs.Scans.{common-le, common-in}
 use Rattle.reader.proofs.Walks.{children-is}
 use Rattle.tags.proofs.Sizes.{close-tag}
+use Rattle.tags.proofs.Finds.{is-whole, is-part, whole-in}
 use Rattle.table.proofs.Held.{Held, held, HeldRow, held-row, held-none}
 
 -- ─── a word at a place ───
@@ -138,8 +138,7 @@ module _ (s : Bytes) where
   }
 
   -- at the row k, whose element is tried at `at`
-  module _ (r₀ : Reads) (c : Elem) (k at far′ : ℕ) (a : Carried) (r : Row) (n l : ℕ) (small : k < table.rowsEnd) (q : r ≡ table.rowAt k)
-      (o : n ≡ common (drop at s) (tags.openTag (r .element))) (w : l ≡ length (tags.openTag (r .element))) where
+  module _ (r₀ : Reads) (c : Elem) (k at far′ : ℕ) (a : Carried) (r : Row) (small : k < table.rowsEnd) (q : r ≡ table.rowAt k) where
     -- what the rows hold there
     pub record Tried (g : Going r₀ c k at far′ a) : Type 0 where
       pub how : How
@@ -159,64 +158,70 @@ module _ (s : Bytes) where
     kept : (g : Going r₀ c k at far′ a) → Held (r .element) (tried g .elem)
     kept g = held (r .element) (tried g .elem) (subst (λ (x : Row). T (holdsElem (x .element) (tried g .elem))) (sym q) (tried g .row .child))
 
-    agreed : (g : Going r₀ c k at far′ a) → common (drop at s) (opening (tried g .elem)) ≡ n
-    agreed g = ap (common (drop at s)) (sym (kept g .open-tag)) ∙ sym o
+    -- what stands of its tag
+    stood : (g : Going r₀ c k at far′ a) (x : Found) → tags.found s at (tags.openTag (r .element)) ≡ x → tags.found s at (opening (tried g .elem)) ≡ x
+    stood g x o = ap (tags.found s at) (sym (kept g .open-tag)) ∙ o
 
-    len : (g : Going r₀ c k at far′ a) → length (opening (tried g .elem)) ≡ l
-    len g = ap length (sym (kept g .open-tag)) ∙ sym w
+    -- the tag stands there in part, up to p
+    module _ (p : ℕ) (o : tags.found s at (tags.openTag (r .element)) ≡ Part p) where
+      abbrev agreed : Going r₀ c k at far′ a → ℕ
+      agreed g = common (drop at s) (opening (tried g .elem))
 
-    missed : (g : Going r₀ c k at far′ a) → n < l → eat (opening (tried g .elem)) (drop at s) ≡ miss n
-    missed g b = eat-part (opening (tried g .elem)) (drop at s) (omega (arith, agreed g, len g)) ∙ ap miss (agreed g)
+      missed : (g : Going r₀ c k at far′ a) → (eat (opening (tried g .elem)) (drop at s) ≡ miss (agreed g)) × (p ≡ at + agreed g)
+      missed g =
+          let u = is-part s at (opening (tried g .elem)) p (stood g (Part p) o) in
+          (eat-part (opening (tried g .elem)) (drop at s) (u .0), u .1)
 
-    pub going-skip : n < l → k < r .other → (f : ℕ) → f ≡ max far′ (at + n) → Going r₀ c k at far′ a → Going r₀ c (r .other) at f a
-    going-skip b u f e g = go (skips-or (tried g .how))
-      where
-        t : Tried g
-        t = tried g
+      pub going-skip : k < r .other → (f : ℕ) → f ≡ max far′ p → Going r₀ c k at far′ a → Going r₀ c (r .other) at f a
+      going-skip u f e g = go (skips-or (tried g .how))
+        where
+          t : Tried g
+          t = tried g
 
-        go : T (skips (t .how)) ⊎ T (not (skips (t .how))) → Going r₀ c (r .other) at f a
-        go (inr x) = absurd (omega (arith, t .row .last x, ap (λ (y : Row). y .other) q))
-        go (inl x) = record {
-          left = t .rest;
-          hold = subst (λ (y : Row). T (holdsItems (y .other) (t .rest))) (sym q) (t .row .other x .1);
-          gap = max (g .gap) n;
-          far-is = omega (arith, e, g .far-is);
-          goes = g .goes ∙ ap (λ (is : Items). stepFrom a c at (far (g .gap) (choose is (closing c) (drop at s)))) (t .is)
-              ∙ ap (λ (x : Choice). stepFrom a c at (far (g .gap) x)) (choose-skip (t .how) (t .elem) (t .rest) (closing c) (drop at s) n x (missed g b))
-              ∙ ap (stepFrom a c at) (far-far (g .gap) n (choose (t .rest) (closing c) (drop at s)));
-        }
+          go : T (skips (t .how)) ⊎ T (not (skips (t .how))) → Going r₀ c (r .other) at f a
+          go (inr x) = absurd (omega (arith, t .row .last x, ap (λ (y : Row). y .other) q))
+          go (inl x) = record {
+            left = t .rest;
+            hold = subst (λ (y : Row). T (holdsItems (y .other) (t .rest))) (sym q) (t .row .other x .1);
+            gap = max (g .gap) (agreed g);
+            far-is = omega (arith, e, g .far-is, missed g .1);
+            goes = g .goes ∙ ap (λ (is : Items). stepFrom a c at (far (g .gap) (choose is (closing c) (drop at s)))) (t .is)
+                ∙ ap (λ (x : Choice). stepFrom a c at (far (g .gap) x)) (choose-skip (t .how) (t .elem) (t .rest) (closing c) (drop at s) (agreed g) x (missed g .0))
+                ∙ ap (stepFrom a c at) (far-far (g .gap) (agreed g) (choose (t .rest) (closing c) (drop at s)));
+          }
 
-    pub going-stuck : n < l → r .other ≤ k → (f : ℕ) → f ≡ max far′ (at + n) → Going r₀ c k at far′ a → r₀ ≡ halts f
-    going-stuck b u f e g = go (skips-or (tried g .how))
-      where
-        t : Tried g
-        t = tried g
+      pub going-stuck : r .other ≤ k → (f : ℕ) → f ≡ max far′ p → Going r₀ c k at far′ a → r₀ ≡ halts f
+      going-stuck u f e g = go (skips-or (tried g .how))
+        where
+          t : Tried g
+          t = tried g
 
-        go : T (skips (t .how)) ⊎ T (not (skips (t .how))) → r₀ ≡ halts f
-        go (inl x) = absurd (omega (arith, t .row .other x .0, ap (λ (y : Row). y .other) q))
-        go (inr x) =
-            g .goes ∙ ap (λ (is : Items). stepFrom a c at (far (g .gap) (choose is (closing c) (drop at s)))) (t .is)
-            ∙ ap (λ (x : Choice). stepFrom a c at (far (g .gap) x)) (choose-stop (t .how) (t .elem) (t .rest) (closing c) (drop at s) n x (missed g b))
-            ∙ ap halts (omega (arith, e, g .far-is))
+          go : T (skips (t .how)) ⊎ T (not (skips (t .how))) → r₀ ≡ halts f
+          go (inl x) = absurd (omega (arith, t .row .other x .0, ap (λ (y : Row). y .other) q))
+          go (inr x) =
+              g .goes ∙ ap (λ (is : Items). stepFrom a c at (far (g .gap) (choose is (closing c) (drop at s)))) (t .is)
+              ∙ ap (λ (x : Choice). stepFrom a c at (far (g .gap) x)) (choose-stop (t .how) (t .elem) (t .rest) (closing c) (drop at s) (agreed g) x (missed g .0))
+              ∙ ap halts (omega (arith, e, g .far-is, missed g .1))
 
     -- the tag stands there whole: what is to come is the element, and then the other children
-    whole : (g : Going r₀ c k at far′ a) → l ≤ n
+    whole : (g : Going r₀ c k at far′ a) (p : ℕ) → tags.found s at (tags.openTag (r .element)) ≡ Whole p
         → r₀ ≡ othersAt Carried (stepOf s) s (after (tried g .how) (tried g .elem) (tried g .rest)) c (oneAt a (tried g .elem) at)
-    whole g b =
+    whole g p o =
         let t : Tried g = tried g in
-        let u = eat-whole (opening (t .elem)) (drop at s) (omega (arith, agreed g, len g)) in
+        let u = eat-whole (opening (t .elem)) (drop at s) (is-whole s at (opening (t .elem)) p (stood g (Whole p) o) .0) in
         g .goes ∙ ap (λ (is : Items). stepFrom a c at (far (g .gap) (choose is (closing c) (drop at s)))) (t .is)
         ∙ ap (λ (x : Choice). stepFrom a c at (far (g .gap) x)) (choose-child (t .how) (t .elem) (t .rest) (closing c) (drop at s) (u .0) (u .1))
 
     -- it was read: x came of it, and b was then carried
-    module _ (u : l ≤ n) (x : Reading) (b : Carried) (ih : (d : Elem) → T (holdsElem (r .element) d) → told s x b ≡ oneAt a d at) where
+    module _ (start : ℕ) (o : tags.found s at (tags.openTag (r .element)) ≡ Whole start) (x : Reading) (b : Carried)
+        (ih : (d : Elem) → T (holdsElem (r .element) d) → told s x b ≡ oneAt a d at) where
       read-as : (g : Going r₀ c k at far′ a) → told s x b ≡ oneAt a (tried g .elem) at
       read-as g = ih (tried g .elem) (subst (λ (z : Row). T (holdsElem (z .element) (tried g .elem))) (sym q) (tried g .row .child))
 
       pub going-lost : (p : ℕ) → x ≡ Stuck p → Going r₀ c k at far′ a → r₀ ≡ halts p
       going-lost p e g =
           let t : Tried g = tried g in
-          whole g u ∙ ap (othersAt Carried (stepOf s) s (after (t .how) (t .elem) (t .rest)) c) (sym (read-as g) ∙ ap (λ (z : Reading). told s z b) e)
+          whole g start o ∙ ap (othersAt Carried (stepOf s) s (after (t .how) (t .elem) (t .rest)) c) (sym (read-as g) ∙ ap (λ (z : Reading). told s z b) e)
 
       pub going-child : (p at′ : ℕ) → x ≡ Ended p → at′ ≡ p + span (inRun Holds) (drop p s) → Going r₀ c k at far′ a → Going r₀ c (r .next) at′ at′ b
       going-child p at′ e v g =
@@ -228,7 +233,7 @@ module _ (s : Bytes) where
             gap = 0;
             far-is = omega arith;
             goes =
-                whole g u ∙ ap (othersAt Carried (stepOf s) s is c) (sym (read-as g) ∙ ap (λ (z : Reading). told s z b) e)
+                whole g start o ∙ ap (othersAt Carried (stepOf s) s is c) (sym (read-as g) ∙ ap (λ (z : Reading). told s z b) e)
                 ∙ ap (λ (j : ℕ). childrenAt Carried (stepOf s) s b is c j) (sym v)
                 ∙ children-is Carried (stepOf s) s b is c at′ ∙ ap (stepFrom b c at′) (sym (far-zero (choose is (closing c) (drop at′ s))));
           }
@@ -241,43 +246,28 @@ module _ (s : Bytes) where
   close-whole : (a : Carried) (c : Elem) (at m : ℕ) (r : Bytes) (x : Eat) → x ≡ ate r → stepFrom a c at (far m (closes x)) ≡ ended (at + length (closing c)) a
   close-whole a c at m r x e = ap (λ (z : Eat). stepFrom a c at (far m (closes z))) e
 
-  closed-part : (e far′ at : ℕ) → (let t = tags.closeTag e in common (drop at s) t < length t)
-      → closed s e far′ at ≡ Stuck (max far′ (at + common (drop at s) (tags.closeTag e)))
-  unfolding closed
-  closed-part e far′ at l = rw (lt-ltb _ _ l)
-
-  closed-whole : (e far′ at : ℕ) → (let t = tags.closeTag e in length t ≤ common (drop at s) t)
-      → closed s e far′ at ≡ Ended (at + common (drop at s) (tags.closeTag e))
-  unfolding closed
-  closed-whole e far′ at l = rw (le-ltb _ _ l)
-
   pub going-close : (r₀ : Reads) (e : ℕ) (c : Elem) (k at far′ : ℕ) (a : Carried) → T (holdsElem e c) → table.rowsEnd ≤ k → Going r₀ c k at far′ a → told s (closed s e far′ at) a ≡ r₀
+  unfolding closed
   going-close r₀ e c k at far′ a t l g = go (g .left) (g .hold) refl
     where
       tag : tags.closeTag e ≡ closing c
       tag = held e c t .close-tag
 
-      n : ℕ
-      n = common (drop at s) (closing c)
-
       from-none : g .left ≡ none → r₀ ≡ stepFrom a c at (far (g .gap) (closes (eat (closing c) (drop at s))))
       from-none q = g .goes ∙ ap (λ (is : Items). stepFrom a c at (far (g .gap) (choose is (closing c) (drop at s)))) q
 
-      ends : g .left ≡ none → Dec (n < length (closing c)) → told s (closed s e far′ at) a ≡ r₀
-      ends q (yes h) =
-          ap (λ (z : Reading). told s z a) (closed-part e far′ at (rw tag h))
-          ∙ ap (λ (w : Bytes). halts (max far′ (at + common (drop at s) w))) tag
-          ∙ ap halts (omega (arith, g .far-is))
-          ∙ sym (from-none q ∙ close-choice a c at (g .gap) n (eat (closing c) (drop at s)) (eat-part (closing c) (drop at s) h))
-      ends q (no h) =
-          let u = eat-whole (closing c) (drop at s) (omega arith) in
-          ap (λ (z : Reading). told s z a) (closed-whole e far′ at (rw tag (omega arith)))
-          ∙ ap (λ (w : Bytes). ended (at + common (drop at s) w) a) tag
-          ∙ ap (λ (j : ℕ). ended (at + j) a) (omega (arith, common-le (drop at s) (closing c)))
-          ∙ sym (from-none q ∙ close-whole a c at (g .gap) (u .0) (eat (closing c) (drop at s)) (u .1))
+      ends : g .left ≡ none → (x : Found) → tags.found s at (closing c) ≡ x → told s (closedBy far′ x) a ≡ r₀
+      ends q (Part p) o =
+          let u = is-part s at (closing c) p o in
+          ap halts (omega (arith, g .far-is, u .1))
+          ∙ sym (from-none q ∙ close-choice a c at (g .gap) (common (drop at s) (closing c)) (eat (closing c) (drop at s)) (eat-part (closing c) (drop at s) (u .0)))
+      ends q (Whole p) o =
+          let u = is-whole s at (closing c) p o in
+          let v = eat-whole (closing c) (drop at s) (u .0) in
+          ap (λ (j : ℕ). ended j a) (u .1) ∙ sym (from-none q ∙ close-whole a c at (g .gap) (v .0) (eat (closing c) (drop at s)) (v .1))
 
       go : (is : Items) → T (holdsItems k is) → g .left ≡ is → told s (closed s e far′ at) a ≡ r₀
-      go none y q = ends q (decLt n (length (closing c)))
+      go none y q = ends q (tags.found s at (tags.closeTag e)) (ap (tags.found s at) (sym tag))
       go (item h d is) y q = absurd (omega (arith, held-row k h d is y .small))
 
   -- ─── an element ───
@@ -324,15 +314,10 @@ fine-ended s at x p st e w = subst (λ (r : Reading). Fine s at r st) e w
 -- a closing tag that was read lies behind its place
 pub closed-fine : (s : Bytes) (e far′ at : ℕ) (st : State) → e < tags.elementCount → at ≤ length s → Within at st → Fine s at (closed s e far′ at) st
 unfolding closed
-closed-fine s e far′ at st h l w =
-    let t : Bytes = tags.closeTag e in
-    let n : ℕ = common (drop at s) t in
-    go n (ltb n (length t)) (common-in s t at n l refl .0) (λ f. omega (arith, close-tag e h .least, ltb-false n (length t) f))
+closed-fine s e far′ at st h l w = go (tags.found s at (tags.closeTag e)) refl
   where
-    go : (n : ℕ) (z : Bool) → at + n ≤ length s → (z ≡ false → 1 ≤ n) → Fine s at (pick z (Stuck (max far′ (at + n))) (Ended (at + n))) st
-    go n true a b = tt
-    go n false a b = (omega (arith, b refl), (a, within-more w (omega arith)))
-
--- the opening tag has room
-pub room-is : (s : Bytes) (e at : ℕ) (kept : List ℕ) (l : ℕ) → Ready s e at kept → l ≡ length (tags.openTag e) → at + l ≤ length s
-room-is s e at kept l r q = omega (arith, r .room)
+    go : (x : Found) → tags.found s at (tags.closeTag e) ≡ x → Fine s at (closedBy far′ x) st
+    go (Part p) o = tt
+    go (Whole p) o =
+        let b : at < p = omega (arith, is-whole s at (tags.closeTag e) p o .1, close-tag e h .least) in
+        (b, (whole-in s at (tags.closeTag e) p l o, within-more w (omega arith)))

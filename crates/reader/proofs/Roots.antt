@@ -1,7 +1,6 @@
 -- A WHOLE MESSAGE, by positions: what was found on the way is what the reader of `tree` comes to.
 --   root-missed, root-lost, root-more, root-done   the root's tag does not stand there; the root is not read; something follows it; nothing does
 --   with-declaration, without-declaration          the declaration stands there, or not
---   root-agrees, root-length                       the root's tag in the tables
 --   read-is                                        an answer that is right of the reader is right of the form
 use Prim.Native.Nat.{ℕ, zero, suc, _+_, _-_, _<_, _≤_, max}
 use native.Mathlib.Nat.{add-assoc, add-zero, zero-add, zero-max}
@@ -28,7 +27,10 @@ use Rattle.reader.specs.declared.Outcome.the-variants.{TooLong, Stuck, R
 use Rattle.reader.specs.Walk.{At, ended, halts, fold, from, elementAt}
 use Rattle.reader.specs.Read.{ReadRight, Answers, Rooted}
 use Rattle.reader.proofs.Walks.{from-element}
+use Rattle.tags.specs.declared.Found.{Found}
+use Rattle.tags.specs.declared.Found.the-variants.{Whole, Part}
 use Rattle.tags.specs.Tags as tags
+use Rattle.tags.proofs.Finds.{is-whole, is-part}
 use Rattle.table.proofs.Held.{document-held, held}
 use Rattle.reader.specs.declared.walk.Reading.{Reading}
 use Rattle.reader.specs.declared.walk.Reading.the-variants.{Ended, Stuck as Halted}
@@ -92,16 +94,23 @@ module _ (s : Bytes) (root : Elem) where
 abbrev pub rootFrom : Bytes → ℕ → ℕ → Res
 rootFrom s far p = farther far (shift p (lead Document p (drop p s)))
 
--- the root's tag is looked for at q, behind the white space that begins at p, and n bytes of it stand there
-module _ (s : Bytes) (far p q n : ℕ) (e : q ≡ p + span (inRun Holds) (drop p s)) (c : n ≡ common (drop q s) (opening Document)) where
-  pub root-missed : n < length (opening Document) → (m : ℕ) → m ≡ max far (q + n) → rootFrom s far p ≡ stuck m
-  root-missed l m k =
-      ap (farther far) (lead-at s Document p q e ∙ start-missed s Document q n (eat-part (opening Document) (drop q s) (omega arith) ∙ ap miss (sym c))) ∙ ap stuck (sym k)
+-- what stands of the root's tag, by its number
+root-found : (s : Bytes) (q : ℕ) (x : Found) → tags.found s q (tags.openTag 0) ≡ x → tags.found s q (opening Document) ≡ x
+root-found s q x h = ap (tags.found s q) (sym (held 0 Document document-held .open-tag)) ∙ h
 
-  -- all of it does, and the reading of the root came to x
-  module _ (l : length (opening Document) ≤ n) (a : Carried) (x : Reading) (b : Carried) (h : told s x b ≡ elementAt Carried (stepOf s) s a Document q) where
+-- the root's tag is looked for at q, behind the white space that begins at p
+module _ (s : Bytes) (far p q : ℕ) (e : q ≡ p + span (inRun Holds) (drop p s)) where
+  pub root-missed : (t : ℕ) → tags.found s q (tags.openTag 0) ≡ Part t → (m : ℕ) → m ≡ max far t → rootFrom s far p ≡ stuck m
+  root-missed t h m k =
+      let u = is-part s q (opening Document) t (root-found s q (Part t) h) in
+      ap (farther far) (lead-at s Document p q e ∙ start-missed s Document q (common (drop q s) (opening Document)) (eat-part (opening Document) (drop q s) (u .0)))
+      ∙ ap stuck (omega (arith, k, u .1))
+
+  -- it stands there whole, and the reading of the root came to x
+  module _ (t : ℕ) (o : tags.found s q (tags.openTag 0) ≡ Whole t) (a : Carried) (x : Reading) (b : Carried)
+      (h : told s x b ≡ elementAt Carried (stepOf s) s a Document q) where
     found : (r : Bytes) × (eat (opening Document) (drop q s) ≡ ate r)
-    found = eat-whole (opening Document) (drop q s) (omega arith)
+    found = eat-whole (opening Document) (drop q s) (is-whole s q (opening Document) t (root-found s q (Whole t) o) .0)
 
     reads : Got
     reads = element kids Document q (found .0)
@@ -162,11 +171,3 @@ read-is s a x (Stuck n) b l e h = (l, subst (Promise declaration Document s) (sy
 read-is s a x Read b l e h =
     let p : Promise declaration Document s (done (h .0)) = subst (Promise declaration Document s) (sym e ∙ h .1) (read-right s) in
     (l, (p .0, p .1, ap (fold Carried (stepOf s) s a) (p .2) ∙ h .2))
-
--- ─── the root's tag in the tables ───
-
-pub root-agrees : (s : Bytes) (at n : ℕ) → n ≡ common (drop at s) (tags.openTag 0) → n ≡ common (drop at s) (opening Document)
-root-agrees s at n e = e ∙ ap (common (drop at s)) (held 0 Document document-held .open-tag)
-
-pub root-length : (l : ℕ) → l ≡ length (tags.openTag 0) → length (opening Document) ≡ l
-root-length l e = ap length (sym (held 0 Document document-held .open-tag)) ∙ sym e

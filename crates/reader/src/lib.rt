@@ -11,6 +11,7 @@ ghost use Rattle.reader.specs.Read.{carried, Rooted, ReadRight, Bounded}
 
 pub mod walk;
 
+use tags::Found;
 use walk::Reading;
 
 // What a message comes to.
@@ -37,19 +38,18 @@ fn read_root(
     ensures exact { λ r. ⌜ Rooted (now (s .entry)) far from (carried (now (kept .entry)) (now (slips .entry)) (now (rows .entry))) r (carried (now (kept .exit)) (now (slips .exit)) (now (rows .exit))) ⌝ }
 {
     let at = scan::white_end(s, from);
-    let n = tags::opens(s, at, 0);
-    if n < tags::open_length(0) {
-        return Outcome::Stuck(scan::later(far, at + n));
-    }
-    match walk::read_element(s, 0, at, kept, slips, rows) {
-        Reading::Stuck(p) => Outcome::Stuck(scan::later(far, p)),
-        Reading::Ended(p) => {
-            let end = scan::white_end(s, p);
-            if end < s.len() {
-                return Outcome::Stuck(scan::later(far, end));
+    match tags::opens(s, at, 0) {
+        Found::Part(p) => Outcome::Stuck(scan::later(far, p)),
+        Found::Whole(start) => match walk::read_element(s, 0, at, start, kept, slips, rows) {
+            Reading::Stuck(p) => Outcome::Stuck(scan::later(far, p)),
+            Reading::Ended(p) => {
+                let end = scan::white_end(s, p);
+                if end < s.len() {
+                    return Outcome::Stuck(scan::later(far, end));
+                }
+                Outcome::Read
             }
-            Outcome::Read
-        }
+        },
     }
 }
 

@@ -11,6 +11,7 @@ ghost use Rattle.reader.specs.Walk.{childrenAt, elementAt};
 ghost use Rattle.kept.specs.Kept.{stateOf};
 ghost use Rattle.reader.specs.Read.{carried};
 ghost use Rattle.reader.specs.Told.{told, closed, Ready, ReadyKids, Fine};
+use tags::Found;
 use tree::Event;
 
 // What reading comes to.
@@ -26,30 +27,29 @@ pub fn read_close(s: &[u8], e: usize, far: usize, at: usize) -> Reading
     requires { ⌜ (e < elementCount) × (at ≤ length (now s)) ⌝ }
     ensures { λ r. ⌜ r ≡ closed (now (s .entry)) e far at ⌝ }
 {
-    let n = tags::closes(s, at, e);
-    if n < tags::close_length(e) {
-        return Reading::Stuck(scan::later(far, at + n));
+    match tags::closes(s, at, e) {
+        Found::Part(p) => Reading::Stuck(scan::later(far, p)),
+        Found::Whole(p) => Reading::Ended(p),
     }
-    Reading::Ended(at + n)
 }
 
-// The element `e`, whose opening tag stands at `at`.
+// The element `e`, whose opening tag stands at `at`, and what is behind it at `start`.
 pub fn read_element(
     s: &[u8],
     e: usize,
     at: usize,
+    start: usize,
     kept: &mut [u64],
     slips: &mut [u64],
     rows: &mut [u64],
 ) -> Reading
-    requires { ⌜ Ready (now s) e at (now kept) ⌝ }
+    requires { ⌜ Ready (now s) e at start (now kept) ⌝ }
     ensures within { λ r. ⌜ Fine (now (s .entry)) at r (stateOf (now (kept .exit))) ⌝ }
     ensures exact { λ r. ⌜ ((c : Elem) → T (holdsElem e c) → told (now (s .entry)) r (carried (now (kept .exit)) (now (slips .exit)) (now (rows .exit)))
         ≡ elementAt Carried (stepOf (now (s .entry))) (now (s .entry)) (carried (now (kept .entry)) (now (slips .entry)) (now (rows .entry))) c at) ⌝ }
 {
     let part = table::part_of(e);
     let kind = table::kind_at(e);
-    let start = at + tags::open_length(e);
     let end = scan::run_end(s, start, kind);
     let event = Event {
         part,
@@ -82,15 +82,15 @@ pub fn read_children(
     while k < table::END {
         let row = table::row_at(k);
         let child = row.element;
-        let n = tags::opens(s, at, child);
-        if n < tags::open_length(child) {
-            far = scan::later(far, at + n);
-            if row.other <= k {
-                return Reading::Stuck(far);
+        match tags::opens(s, at, child) {
+            Found::Part(p) => {
+                far = scan::later(far, p);
+                if row.other <= k {
+                    return Reading::Stuck(far);
+                }
+                k = row.other;
             }
-            k = row.other;
-        } else {
-            match read_element(s, child, at, kept, slips, rows) {
+            Found::Whole(start) => match read_element(s, child, at, start, kept, slips, rows) {
                 Reading::Stuck(p) => {
                     return Reading::Stuck(p);
                 }
@@ -99,7 +99,7 @@ pub fn read_children(
                     far = at;
                     k = row.next;
                 }
-            }
+            },
         }
     }
     read_close(s, e, far, at)

@@ -3,12 +3,17 @@
 --   elements, elementCount  those of the tree, and how many they are
 --   elementAt i             the element with a number
 --   openTag i, closeTag i   its tags
-use Prim.Native.Nat.{ℕ}
+--   found s at w            what stands of the word w at a place of the bytes s
+use Prim.Native.Nat.{ℕ, _+_}
+use mathlib.Core.Bool.{Bool, true, false}
 use mathlib.Core.List.{List, [], _∷_, _++_}
-use lib.ListN.{getD}
+use lib.Dec.{ltb}
+use lib.ListN.{length, drop, getD}
 use Rattle.laws.specs.Bytes.{Bytes}
-use Rattle.tree.specs.Form.{Elem, Items, elem, none, item, opening, closing}
+use Rattle.tree.specs.Form.{Elem, Items, elem, none, item, opening, closing, common}
 use Rattle.tree.specs.Pain008.{Document}
+use Rattle.tags.specs.declared.Found.{Found}
+use Rattle.tags.specs.declared.Found.the-variants.{Whole, Part}
 
 abbrev mutual
   pub flat : Elem → List Elem
@@ -32,3 +37,12 @@ openTag i = opening (elementAt i)
 
 unfoldable pub closeTag : ℕ → Bytes
 closeTag i = closing (elementAt i)
+
+abbrev pub partIf : Bool → ℕ → Found
+partIf true p = Part p
+partIf false p = Whole p
+
+unfoldable pub found : Bytes → ℕ → Bytes → Found
+found s at w =
+    let n = common (drop at s) w in
+    partIf (ltb n (length w)) (at + n)

@@ -7,14 +7,22 @@ ghost use Prim.Native.Nat.{_≤_, _<_};
 ghost use lib.ListN.{length, drop};
 ghost use Rattle.tree.specs.Form.{common};
 ghost use Rattle.scan.specs.Words.{Ends};
-ghost use Rattle.tags.specs.Tags.{elementCount, openTag, closeTag};
+ghost use Rattle.tags.specs.Tags.{elementCount, openTag, closeTag, found};
 
 pub mod words;
+
+// What stands at a place of a tag.
+pub enum Found {
+    // All of it; it ends at this place.
+    Whole(usize),
+    // Its bytes up to this place, and no more.
+    Part(usize),
+}
 
 // ─── an element's tags, by its number ───
 
 // How many bytes its opening tag has.
-pub fn open_length(e: usize) -> usize
+fn open_length(e: usize) -> usize
     requires { ⌜ e < elementCount ⌝ }
     ensures { λ r. ⌜ r ≡ length (openTag e) ⌝ }
 {
@@ -84,7 +92,7 @@ pub fn open_length(e: usize) -> usize
 }
 
 // How many bytes its closing tag has.
-pub fn close_length(e: usize) -> usize
+fn close_length(e: usize) -> usize
     requires { ⌜ e < elementCount ⌝ }
     ensures { λ r. ⌜ r ≡ length (closeTag e) ⌝ }
 {
@@ -183,34 +191,42 @@ fn close_agrees(s: &[u8], at: usize, e: usize, n: usize, head: u64, tail: u64) -
     }
 }
 
-// How many bytes of an element's opening tag stand at a place: all of them, where the bytes there have both its ends.
-pub fn opens(s: &[u8], at: usize, e: usize) -> usize
+// What stands at a place of an element's opening tag: all of it, where the bytes there have both its ends.
+pub fn opens(s: &[u8], at: usize, e: usize) -> Found
     requires { ⌜ (at ≤ length (now s)) × (e < elementCount) ⌝ }
-    ensures { λ r. ⌜ r ≡ common (drop at (now (s .entry))) (openTag e) ⌝ }
+    ensures { λ r. ⌜ r ≡ found (now (s .entry)) at (openTag e) ⌝ }
 {
     let n = open_length(e);
     let head = words::open_head(e);
     let tail = words::open_tail(e);
     if scan::starts(s, at, n, head) {
         if scan::ends(s, at, n, tail) {
-            return n;
+            return Found::Whole(at + n);
         }
     }
-    open_agrees(s, at, e, n, head, tail)
+    let m = open_agrees(s, at, e, n, head, tail);
+    if m < n {
+        return Found::Part(at + m);
+    }
+    Found::Whole(at + m)
 }
 
-// How many bytes of its closing tag.
-pub fn closes(s: &[u8], at: usize, e: usize) -> usize
+// What stands there of its closing tag.
+pub fn closes(s: &[u8], at: usize, e: usize) -> Found
     requires { ⌜ (at ≤ length (now s)) × (e < elementCount) ⌝ }
-    ensures { λ r. ⌜ r ≡ common (drop at (now (s .entry))) (closeTag e) ⌝ }
+    ensures { λ r. ⌜ r ≡ found (now (s .entry)) at (closeTag e) ⌝ }
 {
     let n = close_length(e);
     let head = words::close_head(e);
     let tail = words::close_tail(e);
     if scan::starts(s, at, n, head) {
         if scan::ends(s, at, n, tail) {
-            return n;
+            return Found::Whole(at + n);
         }
     }
-    close_agrees(s, at, e, n, head, tail)
+    let m = close_agrees(s, at, e, n, head, tail);
+    if m < n {
+        return Found::Part(at + m);
+    }
+    Found::Whole(at + m)
 }

@@ -11,12 +11,13 @@ use Rattle.kept.specs.Kept.{stateOf}
 use Rattle.reader.specs.declared.walk.Reading.{Reading}
 use Rattle.reader.specs.Read.{carried}
 use Rattle.reader.specs.Told.{told, Fine, closed}
-use Rattle.scan.proofs.Scans.{common-in, run-in}
+use Rattle.scan.proofs.Scans.{run-in}
 use Rattle.table.specs.Table.{rowsEnd}
 use Rattle.table.proofs.Fits.{fits}
 use Rattle.table.proofs.Held.{first-inside, led}
 use Rattle.tags.proofs.Sizes.{open-tag}
-use Rattle.reader.proofs.Going.{Kept, room-is, going-start, going-skip, going-stuck, going-child, going-lost, going-close, element-read, fine-from, fine-ended, closed-fine}
+use Rattle.tags.proofs.Finds.{is-whole, whole-in}
+use Rattle.reader.proofs.Going.{Kept, going-start, going-skip, going-stuck, going-child, going-lost, going-close, element-read, fine-from, fine-ended, closed-fine}
 use borrow.Fn.Kinds.{In}
 use borrow.Fn.PlainCycle.{Measures, is, falls, and}
 use Rattle.reader.proofs.walk.read_children.Reads as read-children
@@ -34,7 +35,6 @@ use Rattle.table.proofs.first_of.Reads as first-of-reads
 use Rattle.table.proofs.kind_at.Reads as kind-at-reads
 use Rattle.table.proofs.part_of.Reads as part-of-reads
 use Rattle.table.proofs.row_at.Reads as row-at-reads
-use Rattle.tags.proofs.open_length.Reads as open-length-reads
 use Rattle.tags.proofs.opens.Reads as opens-reads
 use Rattle.reader.proofs.walk.+read_children+read_element.{statement}
 use Rattle.reader.proofs.walk.+read_children+read_element.Tie.{close}
@@ -78,8 +78,6 @@ read-children-calls t = (
   row-at-reads.Learnt,
   opens-reads.Asked,
   opens-reads.Learnt,
-  open-length-reads.Asked,
-  open-length-reads.Learnt,
   later-reads.Asked,
   later-reads.Learnt,
   read-element-below t,
@@ -96,8 +94,6 @@ read-element-calls t = (
   part-of-reads.Learnt,
   kind-at-reads.Asked,
   kind-at-reads.Learnt,
-  open-length-reads.Asked,
-  open-length-reads.Learnt,
   run-end-reads.Asked,
   run-end-reads.Learnt,
   on-event-reads.Asked,
@@ -134,36 +130,33 @@ read-children-row-at-requires t c κs = c .loop-test .taken
 read-children-opens-requires : (t : ℕ) → read-children-lts.Need-opens-requires (read-children-calls t) (read-children-at t) read-children.Post read-children-Inv-loop read-children-μ-loop
 read-children-opens-requires t c κs = (c .before .before .loop .inv .inside, led _ _ (c .before .loop-test .taken) (c .row-at .ensures) .child)
 
-read-children-open-length-requires : (t : ℕ) → read-children-lts.Need-open-length-requires (read-children-calls t) (read-children-at t) read-children.Post read-children-Inv-loop read-children-μ-loop
-read-children-open-length-requires t c κs = led _ _ (c .before .before .loop-test .taken) (c .before .row-at .ensures) .child
-
-read-children-add-later : (t : ℕ) → read-children-lts.Need-add-later (read-children-calls t) (read-children-at t) read-children.Post read-children-Inv-loop read-children-μ-loop
-read-children-add-later t c = omega (arith, common-in _ _ _ _ (c .before .before .before .before .before .loop .inv .inside) (c .before .before .opens .ensures))
+read-children-enum-known-p : (t : ℕ) → read-children-lts.Need-enum-known-p (read-children-calls t) (read-children-at t) read-children.Post read-children-Inv-loop read-children-μ-loop
+read-children-enum-known-p t c = search needs
 
 read-children-later-requires : (t : ℕ) → read-children-lts.Need-later-requires (read-children-calls t) (read-children-at t) read-children.Post read-children-Inv-loop read-children-μ-loop
 read-children-later-requires t c κs = search needs
 
 read-children-same-length : (t : ℕ) → read-children-lts.Need-same-length (read-children-calls t) (read-children-at t) read-children.Post read-children-Inv-loop read-children-μ-loop
-read-children-same-length t c = c .before .before .before .before .before .before .before .before .loop .inv .kept-long
+read-children-same-length t c = c .before .before .before .before .before .before .before .before .before .loop .inv .kept-long
 
 read-children-same-length-2 : (t : ℕ) → read-children-lts.Need-same-length-2 (read-children-calls t) (read-children-at t) read-children.Post read-children-Inv-loop read-children-μ-loop
-read-children-same-length-2 t c = c .before .before .before .before .before .before .before .before .loop .inv .slips-long
+read-children-same-length-2 t c = c .before .before .before .before .before .before .before .before .before .loop .inv .slips-long
 
 read-children-same-length-3 : (t : ℕ) → read-children-lts.Need-same-length-3 (read-children-calls t) (read-children-at t) read-children.Post read-children-Inv-loop read-children-μ-loop
-read-children-same-length-3 t c = c .before .before .before .before .before .before .before .before .loop .inv .rows-long
+read-children-same-length-3 t c = c .before .before .before .before .before .before .before .before .before .loop .inv .rows-long
 
 read-children-returns : (t : ℕ) → read-children-lts.Need-returns (read-children-calls t) (read-children-at t) read-children.Post read-children-Inv-loop read-children-μ-loop
 read-children-returns t c = (
   tt,
-  λ d h. sym (going-stuck (c .before .before .before .before .before .before .before .before .before .before .before .before .before .before .args .s .now) _ d _ _ _ _ _ _ _ (c .before .before .before .before .before .before .before .loop-test .taken) (c .before .before .before .before .before .before .row-at .ensures) (c .before .before .before .before .before .opens .ensures) (c .before .before .before .before .open-length .ensures) (c .before .before .before .if1 .taken) (c .if2 .taken) _ (c .before .before .later .ensures) (c .before .before .before .before .before .before .before .before .loop .inv .going d h)),
+  λ d h. sym (going-stuck (c .before .before .before .before .before .before .before .before .before .before .before .before .before .before .before .args .s .now) _ d _ _ _ _ _ (c .before .before .before .before .before .before .before .before .loop-test .taken) (c .before .before .before .before .before .before .before .row-at .ensures) _ (sym (c .before .before .before .before .before .before .opens .ensures) ∙ c .before .before .before .before .p .given .1) (c .if1 .taken) _ (c .before .before .later .ensures) (c .before .before .before .before .before .before .before .before .before .loop .inv .going d h)),
 )
 
 read-children-loop-less : (t : ℕ) → read-children-lts.Need-loop-less (read-children-calls t) (read-children-at t) read-children.Post read-children-Inv-loop read-children-μ-loop
-read-children-loop-less t c = let r = led _ _ (c .before .before .before .before .before .before .before .loop-test .taken) (c .before .before .before .before .before .before .row-at .ensures) in omega arith
+read-children-loop-less t c = let r = led _ _ (c .before .before .before .before .before .before .before .before .loop-test .taken) (c .before .before .before .before .before .before .before .row-at .ensures) in omega arith
 
 read-children-loop-again : (t : ℕ) → read-children-lts.Need-loop-again (read-children-calls t) (read-children-at t) read-children.Post read-children-Inv-loop read-children-μ-loop
-read-children-loop-again t c = let k = c .before .before .before .before .before .before .before .before .loop .inv in
-    let r = led _ _ (c .before .before .before .before .before .before .before .loop-test .taken) (c .before .before .before .before .before .before .row-at .ensures) in
+read-children-loop-again t c = let k = c .before .before .before .before .before .before .before .before .before .loop .inv in
+    let r = led _ _ (c .before .before .before .before .before .before .before .before .loop-test .taken) (c .before .before .before .before .before .before .before .row-at .ensures) in
     record {
       behind = k .behind;
       inside = k .inside;
@@ -172,27 +165,30 @@ read-children-loop-again t c = let k = c .before .before .before .before .before
       kept-long = k .kept-long;
       slips-long = k .slips-long;
       rows-long = k .rows-long;
-      going = λ d h. going-skip (c .before .before .before .before .before .before .before .before .before .before .before .before .before .before .args .s .now) _ d _ _ _ _ _ _ _ (c .before .before .before .before .before .before .before .loop-test .taken) (c .before .before .before .before .before .before .row-at .ensures) (c .before .before .before .before .before .opens .ensures) (c .before .before .before .before .open-length .ensures) (c .before .before .before .if1 .taken) (c .if2 .left) _ (c .before .before .later .ensures) (k .going d h);
+      going = λ d h. going-skip (c .before .before .before .before .before .before .before .before .before .before .before .before .before .before .before .args .s .now) _ d _ _ _ _ _ (c .before .before .before .before .before .before .before .before .loop-test .taken) (c .before .before .before .before .before .before .before .row-at .ensures) _ (sym (c .before .before .before .before .before .before .opens .ensures) ∙ c .before .before .before .before .p .given .1) (c .if1 .left) _ (c .before .before .later .ensures) (k .going d h);
     }
 
+read-children-enum-known-start : (t : ℕ) → read-children-lts.Need-enum-known-start (read-children-calls t) (read-children-at t) read-children.Post read-children-Inv-loop read-children-μ-loop
+read-children-enum-known-start t c = search needs
+
 read-children-read-element-requires : (t : ℕ) → read-children-lts.Need-read-element-requires (read-children-calls t) (read-children-at t) read-children.Post read-children-Inv-loop read-children-μ-loop
-read-children-read-element-requires t c κs = let k = c .before .before .before .before .before .before .before .before .loop .inv in
-    let r = led _ _ (c .before .before .before .before .before .before .before .loop-test .taken) (c .before .before .before .before .before .before .row-at .ensures) in
-    let i = common-in _ _ _ _ (k .inside) (c .before .before .before .before .before .opens .ensures) in
-    let l = c .before .before .before .if1 .left in
-    let m = c .before .before .before .before .before .before .before .before .before .before .before .before .before .before .pre .0 in (
+read-children-read-element-requires t c κs = let k = c .before .before .before .before .before .before .before .before .before .loop .inv in
+    let r = led _ _ (c .before .before .before .before .before .before .before .before .loop-test .taken) (c .before .before .before .before .before .before .before .row-at .ensures) in
+    let o = sym (c .before .before .before .before .before .before .opens .ensures) ∙ c .before .before .before .before .start .given .1 in
+    let m = c .before .before .before .before .before .before .before .before .before .before .before .before .before .before .before .pre .0 in (
       omega arith,
       record {
-        short = c .before .before .before .before .before .before .before .before .before .before .before .before .before .before .pre .1 .short;
+        short = c .before .before .before .before .before .before .before .before .before .before .before .before .before .before .before .pre .1 .short;
         known = r .child;
-        room = omega (arith, c .before .before .before .before .open-length .ensures);
-        long = k .kept-long ∙ c .before .before .before .before .before .before .before .before .before .before .before .before .before .before .pre .1 .long;
+        behind = is-whole _ _ _ _ o .1;
+        room = whole-in _ _ _ _ (k .inside) o;
+        long = k .kept-long ∙ c .before .before .before .before .before .before .before .before .before .before .before .before .before .before .before .pre .1 .long;
         bounds = k .bounds;
       },
     )
 
-read-children-enum-known-p : (t : ℕ) → read-children-lts.Need-enum-known-p (read-children-calls t) (read-children-at t) read-children.Post read-children-Inv-loop read-children-μ-loop
-read-children-enum-known-p t c = search needs
+read-children-enum-known-p-2 : (t : ℕ) → read-children-lts.Need-enum-known-p-2 (read-children-calls t) (read-children-at t) read-children.Post read-children-Inv-loop read-children-μ-loop
+read-children-enum-known-p-2 t c = search needs
 
 read-children-same-length-4 : (t : ℕ) → read-children-lts.Need-same-length-4 (read-children-calls t) (read-children-at t) read-children.Post read-children-Inv-loop read-children-μ-loop
 read-children-same-length-4 t c = search needs
@@ -206,25 +202,25 @@ read-children-same-length-6 t c = search needs
 read-children-returns-2 : (t : ℕ) → read-children-lts.Need-returns-2 (read-children-calls t) (read-children-at t) read-children.Post read-children-Inv-loop read-children-μ-loop
 read-children-returns-2 t c = (
   tt,
-  λ d h. sym (going-lost (c .before .before .before .before .before .before .before .before .before .before .before .before .before .before .before .before .before .before .before .before .before .before .before .before .args .s .now) _ d _ _ _ _ _ _ _ (c .before .before .before .before .before .before .before .before .before .before .before .before .before .before .before .before .before .loop-test .taken) (c .before .before .before .before .before .before .before .before .before .before .before .before .before .before .before .before .row-at .ensures) (c .before .before .before .before .before .before .before .before .before .before .before .before .before .before .before .opens .ensures) (c .before .before .before .before .before .before .before .before .before .before .before .before .before .before .open-length .ensures) (c .before .before .before .before .before .before .before .before .before .before .before .before .before .if1 .left) _ _ (c .before .before .before .before .before .before .before .before .before .read-element .ensures .1) _ (c .before .p .given .1) (c .before .before .before .before .before .before .before .before .before .before .before .before .before .before .before .before .before .before .loop .inv .going d h)),
+  λ d h. sym (going-lost (c .before .before .before .before .before .before .before .before .before .before .before .before .before .before .before .before .before .before .before .before .before .before .before .before .before .args .s .now) _ d _ _ _ _ _ (c .before .before .before .before .before .before .before .before .before .before .before .before .before .before .before .before .before .before .loop-test .taken) (c .before .before .before .before .before .before .before .before .before .before .before .before .before .before .before .before .before .row-at .ensures) _ (sym (c .before .before .before .before .before .before .before .before .before .before .before .before .before .before .before .before .opens .ensures) ∙ c .before .before .before .before .before .before .before .before .before .before .before .before .before .before .start .given .1) _ _ (c .before .before .before .before .before .before .before .before .before .read-element .ensures .1) _ (c .before .p2 .given .1) (c .before .before .before .before .before .before .before .before .before .before .before .before .before .before .before .before .before .before .before .loop .inv .going d h)),
 )
 
-read-children-enum-known-p-2 : (t : ℕ) → read-children-lts.Need-enum-known-p-2 (read-children-calls t) (read-children-at t) read-children.Post read-children-Inv-loop read-children-μ-loop
-read-children-enum-known-p-2 t c = search needs
+read-children-enum-known-p-3 : (t : ℕ) → read-children-lts.Need-enum-known-p-3 (read-children-calls t) (read-children-at t) read-children.Post read-children-Inv-loop read-children-μ-loop
+read-children-enum-known-p-3 t c = search needs
 
 read-children-white-end-requires : (t : ℕ) → read-children-lts.Need-white-end-requires (read-children-calls t) (read-children-at t) read-children.Post read-children-Inv-loop read-children-μ-loop
-read-children-white-end-requires t c κs = fine-ended (c .before .before .before .before .before .before .before .before .before .before .before .before .before .before .before .before .before .before .before .before .before .before .before .before .args .s .now) (c .before .before .before .before .before .before .before .before .before .before .before .before .before .before .before .before .before .before .loop .at) _ _ _ (c .before .p2 .given .1) (c .before .before .before .before .before .before .before .before .before .read-element .ensures .0) .1 .0
+read-children-white-end-requires t c κs = fine-ended (c .before .before .before .before .before .before .before .before .before .before .before .before .before .before .before .before .before .before .before .before .before .before .before .before .before .args .s .now) (c .before .before .before .before .before .before .before .before .before .before .before .before .before .before .before .before .before .before .before .loop .at) _ _ _ (c .before .p3 .given .1) (c .before .before .before .before .before .before .before .before .before .read-element .ensures .0) .1 .0
 
 read-children-loop-less-2 : (t : ℕ) → read-children-lts.Need-loop-less-2 (read-children-calls t) (read-children-at t) read-children.Post read-children-Inv-loop read-children-μ-loop
-read-children-loop-less-2 t c = let r = led _ _ (c .before .before .before .before .before .before .before .before .before .before .before .before .before .before .before .before .before .before .loop-test .taken) (c .before .before .before .before .before .before .before .before .before .before .before .before .before .before .before .before .before .row-at .ensures) in
-    let f = fine-ended (c .before .before .before .before .before .before .before .before .before .before .before .before .before .before .before .before .before .before .before .before .before .before .before .before .before .args .s .now) (c .before .before .before .before .before .before .before .before .before .before .before .before .before .before .before .before .before .before .before .loop .at) _ _ _ (c .before .before .p2 .given .1) (c .before .before .before .before .before .before .before .before .before .before .read-element .ensures .0) in
+read-children-loop-less-2 t c = let r = led _ _ (c .before .before .before .before .before .before .before .before .before .before .before .before .before .before .before .before .before .before .before .loop-test .taken) (c .before .before .before .before .before .before .before .before .before .before .before .before .before .before .before .before .before .before .row-at .ensures) in
+    let f = fine-ended (c .before .before .before .before .before .before .before .before .before .before .before .before .before .before .before .before .before .before .before .before .before .before .before .before .before .before .args .s .now) (c .before .before .before .before .before .before .before .before .before .before .before .before .before .before .before .before .before .before .before .before .loop .at) _ _ _ (c .before .before .p3 .given .1) (c .before .before .before .before .before .before .before .before .before .before .read-element .ensures .0) in
     let w = run-in white _ _ _ (f .1 .0) (c .white-end .ensures) in
     omega arith
 
 read-children-loop-again-2 : (t : ℕ) → read-children-lts.Need-loop-again-2 (read-children-calls t) (read-children-at t) read-children.Post read-children-Inv-loop read-children-μ-loop
-read-children-loop-again-2 t c = let k = c .before .before .before .before .before .before .before .before .before .before .before .before .before .before .before .before .before .before .before .loop .inv in
-    let r = led _ _ (c .before .before .before .before .before .before .before .before .before .before .before .before .before .before .before .before .before .before .loop-test .taken) (c .before .before .before .before .before .before .before .before .before .before .before .before .before .before .before .before .before .row-at .ensures) in
-    let f = fine-ended (c .before .before .before .before .before .before .before .before .before .before .before .before .before .before .before .before .before .before .before .before .before .before .before .before .before .args .s .now) (c .before .before .before .before .before .before .before .before .before .before .before .before .before .before .before .before .before .before .before .loop .at) _ _ _ (c .before .before .p2 .given .1) (c .before .before .before .before .before .before .before .before .before .before .read-element .ensures .0) in
+read-children-loop-again-2 t c = let k = c .before .before .before .before .before .before .before .before .before .before .before .before .before .before .before .before .before .before .before .before .loop .inv in
+    let r = led _ _ (c .before .before .before .before .before .before .before .before .before .before .before .before .before .before .before .before .before .before .before .loop-test .taken) (c .before .before .before .before .before .before .before .before .before .before .before .before .before .before .before .before .before .before .row-at .ensures) in
+    let f = fine-ended (c .before .before .before .before .before .before .before .before .before .before .before .before .before .before .before .before .before .before .before .before .before .before .before .before .before .before .args .s .now) (c .before .before .before .before .before .before .before .before .before .before .before .before .before .before .before .before .before .before .before .before .loop .at) _ _ _ (c .before .before .p3 .given .1) (c .before .before .before .before .before .before .before .before .before .before .read-element .ensures .0) in
     let w = run-in white _ _ _ (f .1 .0) (c .white-end .ensures) in
     record {
       behind = omega arith;
@@ -234,7 +230,7 @@ read-children-loop-again-2 t c = let k = c .before .before .before .before .befo
       kept-long = search needs;
       slips-long = search needs;
       rows-long = search needs;
-      going = λ d h. going-child (c .before .before .before .before .before .before .before .before .before .before .before .before .before .before .before .before .before .before .before .before .before .before .before .before .before .args .s .now) _ d _ _ _ _ _ _ _ (c .before .before .before .before .before .before .before .before .before .before .before .before .before .before .before .before .before .before .loop-test .taken) (c .before .before .before .before .before .before .before .before .before .before .before .before .before .before .before .before .before .row-at .ensures) (c .before .before .before .before .before .before .before .before .before .before .before .before .before .before .before .before .opens .ensures) (c .before .before .before .before .before .before .before .before .before .before .before .before .before .before .before .open-length .ensures) (c .before .before .before .before .before .before .before .before .before .before .before .before .before .before .if1 .left) _ _ (c .before .before .before .before .before .before .before .before .before .before .read-element .ensures .1) _ _ (c .before .before .p2 .given .1) (c .white-end .ensures) (k .going d h);
+      going = λ d h. going-child (c .before .before .before .before .before .before .before .before .before .before .before .before .before .before .before .before .before .before .before .before .before .before .before .before .before .before .args .s .now) _ d _ _ _ _ _ (c .before .before .before .before .before .before .before .before .before .before .before .before .before .before .before .before .before .before .before .loop-test .taken) (c .before .before .before .before .before .before .before .before .before .before .before .before .before .before .before .before .before .before .row-at .ensures) _ (sym (c .before .before .before .before .before .before .before .before .before .before .before .before .before .before .before .before .before .opens .ensures) ∙ c .before .before .before .before .before .before .before .before .before .before .before .before .before .before .before .start .given .1) _ _ (c .before .before .before .before .before .before .before .before .before .before .read-element .ensures .1) _ _ (c .before .before .p3 .given .1) (c .white-end .ensures) (k .going d h);
     }
 
 read-children-read-close-requires : (t : ℕ) → read-children-lts.Need-read-close-requires (read-children-calls t) (read-children-at t) read-children.Post read-children-Inv-loop read-children-μ-loop
@@ -264,44 +260,36 @@ read-element-part-of-requires t c κs = c .before .before .before .before .pre .
 read-element-kind-at-requires : (t : ℕ) → read-element-lts.Need-kind-at-requires (read-element-calls t) (read-element-at t) read-element.Post
 read-element-kind-at-requires t c κs = c .before .before .before .before .before .pre .1 .known
 
-read-element-open-length-requires : (t : ℕ) → read-element-lts.Need-open-length-requires (read-element-calls t) (read-element-at t) read-element.Post
-read-element-open-length-requires t c κs = c .before .before .before .before .before .before .pre .1 .known
-
-read-element-add-start : (t : ℕ) → read-element-lts.Need-add-start (read-element-calls t) (read-element-at t) read-element.Post
-read-element-add-start t c = omega (arith, room-is _ _ _ _ _ (c .before .before .before .before .before .before .before .pre .1) (c .open-length .ensures), c .before .before .before .before .before .before .before .pre .1 .short)
-
 read-element-run-end-requires : (t : ℕ) → read-element-lts.Need-run-end-requires (read-element-calls t) (read-element-at t) read-element.Post
-read-element-run-end-requires t c κs = room-is _ _ _ _ _ (c .before .before .before .before .before .before .before .pre .1) (c .open-length .ensures)
+read-element-run-end-requires t c κs = c .before .before .before .before .before .before .pre .1 .room
 
 read-element-sub-t12 : (t : ℕ) → read-element-lts.Need-sub-t12 (read-element-calls t) (read-element-at t) read-element.Post
-read-element-sub-t12 t c = run-in _ _ _ _ (room-is _ _ _ _ _ (c .before .before .before .before .before .before .before .before .pre .1) (c .before .open-length .ensures)) (c .run-end .ensures) .0
+read-element-sub-t12 t c = run-in _ _ _ _ (c .before .before .before .before .before .before .before .pre .1 .room) (c .run-end .ensures) .0
 
 read-element-on-event-requires : (t : ℕ) → read-element-lts.Need-on-event-requires (read-element-calls t) (read-element-at t) read-element.Post
-read-element-on-event-requires t c κs = let q = room-is _ _ _ _ _ (c .before .before .before .before .before .before .before .before .before .before .before .pre .1) (c .before .before .before .before .open-length .ensures) in
-    let p = open-tag _ (c .before .before .before .before .before .before .before .before .before .before .before .pre .1 .known) .least in
-    let w = run-in _ _ _ _ q (c .before .before .before .run-end .ensures) in
-    let f = fits _ (c .before .before .before .before .before .before .before .before .before .before .before .pre .1 .known) in (
-      c .before .before .before .before .before .before .before .before .before .before .before .pre .1 .long,
-      c .before .before .before .before .before .before .before .before .before .before .before .pre .1 .short,
+read-element-on-event-requires t c κs = let p = open-tag _ (c .before .before .before .before .before .before .before .before .before .before .pre .1 .known) .least in
+    let w = run-in _ _ _ _ (c .before .before .before .before .before .before .before .before .before .before .pre .1 .room) (c .before .before .before .run-end .ensures) in
+    let f = fits _ (c .before .before .before .before .before .before .before .before .before .before .pre .1 .known) in (
+      c .before .before .before .before .before .before .before .before .before .before .pre .1 .long,
+      c .before .before .before .before .before .before .before .before .before .before .pre .1 .short,
       omega arith,
-      omega (arith, c .before .before .before .before .open-length .ensures),
-      c .before .before .before .before .before .before .before .before .before .before .before .pre .1 .bounds,
+      omega (arith, c .before .before .before .before .before .before .before .before .before .before .pre .1 .behind),
+      c .before .before .before .before .before .before .before .before .before .before .pre .1 .bounds,
       record {
-        amount = λ h. c .before .before .before .before .before .kind-at .ensures ∙ f .amount (sym (c .before .before .before .before .before .before .part-of .ensures) ∙ h);
-        scheme = λ h. c .before .before .before .before .before .kind-at .ensures ∙ f .scheme (sym (c .before .before .before .before .before .before .part-of .ensures) ∙ h);
-        sequence = λ h. c .before .before .before .before .before .kind-at .ensures ∙ f .sequence (sym (c .before .before .before .before .before .before .part-of .ensures) ∙ h);
+        amount = λ h. c .before .before .before .before .kind-at .ensures ∙ f .amount (sym (c .before .before .before .before .before .part-of .ensures) ∙ h);
+        scheme = λ h. c .before .before .before .before .kind-at .ensures ∙ f .scheme (sym (c .before .before .before .before .before .part-of .ensures) ∙ h);
+        sequence = λ h. c .before .before .before .before .kind-at .ensures ∙ f .sequence (sym (c .before .before .before .before .before .part-of .ensures) ∙ h);
       },
     )
 
 read-element-read-children-requires : (t : ℕ) → read-element-lts.Need-read-children-requires (read-element-calls t) (read-element-at t) read-element.Post
-read-element-read-children-requires t c κs = let q = room-is _ _ _ _ _ (c .before .before .before .before .before .before .before .before .before .before .before .before .before .before .before .before .before .before .before .before .before .pre .1) (c .before .before .before .before .before .before .before .before .before .before .before .before .before .before .open-length .ensures) in
-    let p = open-tag _ (c .before .before .before .before .before .before .before .before .before .before .before .before .before .before .before .before .before .before .before .before .before .pre .1 .known) .least in
-    let w = run-in _ _ _ _ q (c .before .before .before .before .before .before .before .before .before .before .before .before .before .run-end .ensures) in
-    let m = c .before .before .before .before .before .before .before .before .before .before .before .before .before .before .before .before .before .before .before .before .before .pre .0 in (
-      omega (arith, c .before .before .before .before .before .before .before .before .before .before .before .before .before .before .open-length .ensures),
+read-element-read-children-requires t c κs = let p = open-tag _ (c .before .before .before .before .before .before .before .before .before .before .before .before .before .before .before .before .before .before .before .before .pre .1 .known) .least in
+    let w = run-in _ _ _ _ (c .before .before .before .before .before .before .before .before .before .before .before .before .before .before .before .before .before .before .before .before .pre .1 .room) (c .before .before .before .before .before .before .before .before .before .before .before .before .before .run-end .ensures) in
+    let m = c .before .before .before .before .before .before .before .before .before .before .before .before .before .before .before .before .before .before .before .before .pre .0 in (
+      omega (arith, c .before .before .before .before .before .before .before .before .before .before .before .before .before .before .before .before .before .before .before .before .pre .1 .behind),
       record {
-        short = c .before .before .before .before .before .before .before .before .before .before .before .before .before .before .before .before .before .before .before .before .before .pre .1 .short;
-        known = c .before .before .before .before .before .before .before .before .before .before .before .before .before .before .before .before .before .before .before .before .before .pre .1 .known;
+        short = c .before .before .before .before .before .before .before .before .before .before .before .before .before .before .before .before .before .before .before .before .pre .1 .short;
+        known = c .before .before .before .before .before .before .before .before .before .before .before .before .before .before .before .before .before .before .before .before .pre .1 .known;
         room = w .1;
         long = search needs;
         bounds = within-more (c .before .before .before .before .before .before .before .before .before .on-event .ensures .0) (w .0);
@@ -318,11 +306,10 @@ read-element-same-length-3 : (t : ℕ) → read-element-lts.Need-same-length-3 (
 read-element-same-length-3 t c = search needs
 
 read-element-returns : (t : ℕ) → read-element-lts.Need-returns (read-element-calls t) (read-element-at t) read-element.Post
-read-element-returns t c = let q = room-is _ _ _ _ _ (c .before .before .before .before .before .before .before .before .before .before .before .before .before .before .before .before .before .before .before .before .before .before .before .before .before .before .before .before .pre .1) (c .before .before .before .before .before .before .before .before .before .before .before .before .before .before .before .before .before .before .before .before .before .open-length .ensures) in
-    let w = run-in _ _ _ _ q (c .before .before .before .before .before .before .before .before .before .before .before .before .before .before .before .before .before .before .before .before .run-end .ensures) in (
-      fine-from (c .before .before .before .before .before .before .before .before .before .before .before .before .before .before .before .before .before .before .before .before .before .before .before .before .before .before .before .before .args .s .now) (c .before .before .before .before .before .before .before .before .before .before .before .before .before .before .before .before .before .before .before .before .before .before .before .before .before .before .before .before .args .at) (c .before .before .before .before .before .before .before .before .before .before .before .before .before .before .before .before .before .before .before .before .run-end .result) _ (omega arith) (c .before .before .before .before .before .before .read-children .result) (c .before .before .before .before .before .before .read-children .ensures .0),
-      element-read (c .before .before .before .before .before .before .before .before .before .before .before .before .before .before .before .before .before .before .before .before .before .before .before .before .before .before .before .before .args .s .now) _ _ _ _ _ _ _ _ _ (c .before .before .before .before .before .before .before .before .before .before .before .before .before .before .before .before .before .before .before .before .before .before .before .part-of .ensures) (c .before .before .before .before .before .before .before .before .before .before .before .before .before .before .before .before .before .before .before .before .before .before .kind-at .ensures) (ap (λ (j : ℕ). c .before .before .before .before .before .before .before .before .before .before .before .before .before .before .before .before .before .before .before .before .before .before .before .before .before .before .before .before .args .at + j) (c .before .before .before .before .before .before .before .before .before .before .before .before .before .before .before .before .before .before .before .before .before .open-length .ensures)) (c .before .before .before .before .before .before .before .before .before .before .before .before .before .before .before .before .before .before .before .before .run-end .ensures) (c .before .before .before .before .before .before .before .before .before .before .before .before .before .before .before .before .on-event .ensures .1) (c .before .before .before .before .before .before .read-children .ensures .1),
-    )
+read-element-returns t c = let w = run-in _ _ _ _ (c .before .before .before .before .before .before .before .before .before .before .before .before .before .before .before .before .before .before .before .before .before .before .before .before .before .before .before .pre .1 .room) (c .before .before .before .before .before .before .before .before .before .before .before .before .before .before .before .before .before .before .before .before .run-end .ensures) in (
+  fine-from (c .before .before .before .before .before .before .before .before .before .before .before .before .before .before .before .before .before .before .before .before .before .before .before .before .before .before .before .args .s .now) (c .before .before .before .before .before .before .before .before .before .before .before .before .before .before .before .before .before .before .before .before .before .before .before .before .before .before .before .args .at) (c .before .before .before .before .before .before .before .before .before .before .before .before .before .before .before .before .before .before .before .before .run-end .result) _ (omega (arith, c .before .before .before .before .before .before .before .before .before .before .before .before .before .before .before .before .before .before .before .before .before .before .before .before .before .before .before .pre .1 .behind)) (c .before .before .before .before .before .before .read-children .result) (c .before .before .before .before .before .before .read-children .ensures .0),
+  element-read (c .before .before .before .before .before .before .before .before .before .before .before .before .before .before .before .before .before .before .before .before .before .before .before .before .before .before .before .args .s .now) _ _ _ _ _ _ _ _ _ (c .before .before .before .before .before .before .before .before .before .before .before .before .before .before .before .before .before .before .before .before .before .before .part-of .ensures) (c .before .before .before .before .before .before .before .before .before .before .before .before .before .before .before .before .before .before .before .before .before .kind-at .ensures) (c .before .before .before .before .before .before .before .before .before .before .before .before .before .before .before .before .before .before .before .before .before .before .before .before .before .before .before .pre .1 .behind) (c .before .before .before .before .before .before .before .before .before .before .before .before .before .before .before .before .before .before .before .before .run-end .ensures) (c .before .before .before .before .before .before .before .before .before .before .before .before .before .before .before .before .on-event .ensures .1) (c .before .before .before .before .before .before .read-children .ensures .1),
+)
 
 pub +read-children+read-element-spec : {M : Type 1} → statement M
 +read-children+read-element-spec =
@@ -335,8 +322,7 @@ pub +read-children+read-element-spec : {M : Type 1} → statement M
     (read-children-loop-holds t)
     (read-children-row-at-requires t)
     (read-children-opens-requires t)
-    (read-children-open-length-requires t)
-    (read-children-add-later t)
+    (read-children-enum-known-p t)
     (read-children-later-requires t)
     (read-children-same-length t)
     (read-children-same-length-2 t)
@@ -344,13 +330,14 @@ pub +read-children+read-element-spec : {M : Type 1} → statement M
     (read-children-returns t)
     (read-children-loop-less t)
     (read-children-loop-again t)
+    (read-children-enum-known-start t)
     (read-children-read-element-requires t)
-    (read-children-enum-known-p t)
+    (read-children-enum-known-p-2 t)
     (read-children-same-length-4 t)
     (read-children-same-length-5 t)
     (read-children-same-length-6 t)
     (read-children-returns-2 t)
-    (read-children-enum-known-p-2 t)
+    (read-children-enum-known-p-3 t)
     (read-children-white-end-requires t)
     (read-children-loop-less-2 t)
     (read-children-loop-again-2 t)
@@ -364,8 +351,6 @@ pub +read-children+read-element-spec : {M : Type 1} → statement M
     read-element.Post
     (read-element-part-of-requires t)
     (read-element-kind-at-requires t)
-    (read-element-open-length-requires t)
-    (read-element-add-start t)
     (read-element-run-end-requires t)
     (read-element-sub-t12 t)
     (read-element-on-event-requires t)

@@ -1,6 +1,4 @@
 -- `reader::walk::read_close` meets its contract: the laws of Closes.
-use native.Mathlib.Omega.{arith}
-use Rattle.scan.proofs.Scans.{common-in}
 use Rattle.reader.proofs.Closes.{close-stuck, close-ended}
 use borrow.Author.Needs.{needs}
 use Rattle.reader.proofs.walk.read_close.Statement.{statement}
@@ -9,32 +7,22 @@ use Rattle.reader.proofs.walk.read_close.Tie as tie
 closes-requires : tie.Need-closes-requires
 closes-requires c κs = search needs
 
-close-length-requires : tie.Need-close-length-requires
-close-length-requires c κs = search needs
-
-add-later : tie.Need-add-later
-add-later c = omega (arith, common-in _ _ _ _ (c .before .before .before .before .pre .1) (c .before .before .closes .ensures))
+enum-known-p : tie.Need-enum-known-p
+enum-known-p c = search needs
 
 later-requires : tie.Need-later-requires
 later-requires c κs = search needs
 
-returns : tie.Need-returns
-returns c = close-stuck _ _ _ _ _ _ (c .before .before .before .closes .ensures) (c .before .before .close-length .ensures) _ (c .before .if1 .taken) (c .later .ensures)
+enum-known-p-2 : tie.Need-enum-known-p-2
+enum-known-p-2 c = search needs
 
-add-t6 : tie.Need-add-t6
-add-t6 c = omega (arith, common-in _ _ _ _ (c .before .before .before .before .pre .1) (c .before .before .closes .ensures))
+returns : tie.Need-returns
+returns c = close-stuck _ _ _ _ _ (c .before .before .before .before .closes .ensures) _ (c .before .before .p .given .1) _ (c .later .ensures)
 
 returns-2 : tie.Need-returns-2
-returns-2 c = close-ended _ _ (c .before .before .before .before .args .far) _ _ _ (c .before .before .closes .ensures) (c .before .close-length .ensures) (c .if1 .left)
+returns-2 c = close-ended _ _ (c .before .before .before .before .before .args .far) _ _ (c .before .before .before .closes .ensures) _ (c .before .p2 .given .1)
 
 pub read-close-spec : {M : Type 1} → statement M
 read-close-spec =
     tie.close
-    (tie.spec
-    closes-requires
-    close-length-requires
-    add-later
-    later-requires
-    returns
-    add-t6
-    returns-2)
+    (tie.spec closes-requires enum-known-p later-requires enum-known-p-2 returns returns-2)
