@@ -5,14 +5,13 @@
 use Prim.Native.Nat.{ℕ, _+_, _<_, _≤_}
 use native.Mathlib.Omega.{arith}
 use mathlib.Core.Bool.{Bool, true, false}
-use mathlib.Core.Path.{_≡_, refl, sym, _∙_}
+use mathlib.Core.Path.{_≡_, refl, sym}
 use lib.Dec.{ltb}
 use lib.ListN.{length, drop}
 use borrow.Author.Tests.{lt-ltb, le-ltb, ltb-true, ltb-false}
 use Rattle.laws.specs.Bytes.{Bytes}
 use Rattle.tree.specs.Form.{common}
 use Rattle.scan.proofs.Scans.{common-le, common-in}
-use Rattle.tags.specs.declared.Found.{Found}
 use Rattle.tags.specs.declared.Found.the-variants.{Whole, Part}
 use Rattle.tags.specs.Tags.{partIf, found}
 
