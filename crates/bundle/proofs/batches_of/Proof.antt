@@ -34,13 +34,13 @@ loop-less c = omega arith
 loop-again : tie.Need-loop-again Inv-loop μ-loop
 loop-again c =
     let inv = c .before .before .before .loop .inv in
-    ⊎-elim (λ w. rw (w .1) (met-same _ _ _ _ inv (omega arith) (w .0 .taken))) (λ w. rw (w .1) (met-other _ _ _ _ inv (omega arith) (w .0 .left))) (c .if1 .came)
+    ⊎-elim (λ w. rw (w .1) (met-same _ _ _ _ inv (c .before .before .loop-test .taken) (w .0 .taken))) (λ w. rw (w .1) (met-other _ _ _ _ inv (c .before .before .loop-test .taken) (w .0 .left))) (c .if1 .came)
 
 rounded-up-requires : tie.Need-rounded-up-requires Inv-loop μ-loop
 rounded-up-requires c κs = omega arith
 
 returns : tie.Need-returns Inv-loop μ-loop
-returns c = met-all _ _ _ _ (c .before .before .loop .inv) _ _ (omega arith) (c .rounded-up .ensures)
+returns c = met-all _ _ _ _ (c .before .before .loop .inv) _ _ (c .before .loop-test .left) (c .rounded-up .ensures)
 
 pub batches-of-spec : {M : Type 1} → statement M
 batches-of-spec =

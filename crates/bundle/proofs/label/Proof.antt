@@ -2,7 +2,7 @@
 -- Inner search: no collection before `earlier` has the code of `at`.
 use Prim.Native.Nat.{_-_}
 use native.Mathlib.Omega.{arith}
-use mathlib.Core.Path.{_≡_}
+use mathlib.Core.Path.{_≡_, refl}
 use lib.ListN.{length}
 use Rattle.bundle.proofs.Loops.{Searching, searching-on, counted-small, counted-end, Labelled, labelled-start, labelled-old, labelled-new, labelled-end}
 use Rattle.bundle.proofs.label.Statement.{statement}
@@ -24,7 +24,7 @@ outer-holds : tie.Need-outer-holds Inv-loop μ-loop Inv-outer μ-outer
 outer-holds c = labelled-start _ _ _ (omega arith)
 
 loop-holds : tie.Need-loop-holds Inv-loop μ-loop Inv-outer μ-outer
-loop-holds c = (omega arith, record { here = omega arith; upto = omega arith; none = omega arith }, c .before .outer .inv)
+loop-holds c = (refl, record { here = c .outer-test .taken; upto = omega arith; none = refl }, c .before .outer .inv)
 
 mul-if1 : tie.Need-mul-if1 Inv-loop μ-loop Inv-outer μ-outer
 mul-if1 c = omega arith
@@ -47,7 +47,7 @@ outer-less c = omega arith
 outer-again : tie.Need-outer-again Inv-loop μ-loop Inv-outer μ-outer
 outer-again c =
     let inv = c .before .before .before .before .loop .inv in
-    labelled-old _ _ _ _ _ (inv .2) _ (inv .1) (omega arith) (c .if1 .taken)
+    labelled-old _ _ _ _ _ (inv .2) _ (inv .1) (c .before .before .before .loop-test .taken) (c .if1 .taken)
 
 add-earlier : tie.Need-add-earlier Inv-loop μ-loop Inv-outer μ-outer
 add-earlier c = omega arith
@@ -58,7 +58,7 @@ loop-less c = omega arith
 loop-again : tie.Need-loop-again Inv-loop μ-loop Inv-outer μ-outer
 loop-again c =
     let inv = c .before .before .before .before .loop .inv in
-    (inv .0, searching-on _ _ _ (inv .1) (omega arith) (c .if1 .left), inv .2)
+    (inv .0, searching-on _ _ _ (inv .1) (c .before .before .before .loop-test .taken) (c .if1 .left), inv .2)
 
 mul-mark : tie.Need-mul-mark Inv-loop μ-loop Inv-outer μ-outer
 mul-mark c = omega arith
@@ -79,7 +79,7 @@ outer-again-2 : tie.Need-outer-again-2 Inv-loop μ-loop Inv-outer μ-outer
 outer-again-2 c =
     let inv = c .before .before .before .before .before .before .loop .inv in
     let marked = c .before .before .mark .ensures in
-    rw (marked .0) (labelled-new _ _ _ _ _ (inv .2) _ _ (inv .1) (omega arith) (marked .1))
+    rw (marked .0) (labelled-new _ _ _ _ _ (inv .2) _ _ (inv .1) (c .before .before .before .before .before .loop-test .left) (marked .1))
 
 same-length : tie.Need-same-length Inv-loop μ-loop Inv-outer μ-outer
 same-length c = omega arith
@@ -87,7 +87,7 @@ same-length c = omega arith
 returns : tie.Need-returns Inv-loop μ-loop Inv-outer μ-outer
 returns c =
     let inv = c .before .outer .inv in
-    (counted-end _ _ _ _ (inv .counted) (omega arith), labelled-end _ _ _ _ _ inv (omega arith))
+    (counted-end _ _ _ _ (inv .counted) (c .outer-test .left), labelled-end _ _ _ _ _ inv (c .outer-test .left))
 
 pub label-spec : {M : Type 1} → statement M
 label-spec =

@@ -50,8 +50,8 @@ loop-again : tie.Need-loop-again Inv-loop μ-loop
 loop-again c =
     let inv = c .before .before .before .loop .inv in
     ⊎-elim
-    (λ w. rw (w .1, w .2) (met-same _ _ _ _ (inv .0) (omega arith) (w .0 .taken), marked-same _ _ _ _ _ _ _ (inv .1) _ _ (omega arith) (w .0 .taken) (inv .0 .is) (omega arith)))
-    (λ w. rw (w .1, w .2) (met-other _ _ _ _ (inv .0) (omega arith) (w .0 .left), marked-other _ _ _ _ _ _ _ (inv .1) (w .0 .left)))
+    (λ w. rw (w .1, w .2) (met-same _ _ _ _ (inv .0) (c .before .before .loop-test .taken) (w .0 .taken), marked-same _ _ _ _ _ _ _ (inv .1) _ _ (omega arith) (w .0 .taken) (inv .0 .is) (omega arith)))
+    (λ w. rw (w .1, w .2) (met-other _ _ _ _ (inv .0) (c .before .before .loop-test .taken) (w .0 .left), marked-other _ _ _ _ _ _ _ (inv .1) (w .0 .left)))
     (c .if1 .came)
 
 rounded-up-requires : tie.Need-rounded-up-requires Inv-loop μ-loop
@@ -66,7 +66,7 @@ same-length c = omega arith
 returns : tie.Need-returns Inv-loop μ-loop
 returns c =
     let inv = c .before .before .loop .inv in
-    (omega (arith, met-all _ _ _ _ (inv .0) _ _ (omega arith) (c .rounded-up .ensures)), marked-end _ _ _ _ _ _ _ (inv .1) (inv .0 .within) (omega arith))
+    (omega (arith, met-all _ _ _ _ (inv .0) _ _ (c .before .loop-test .left) (c .rounded-up .ensures)), marked-end _ _ _ _ _ _ _ (inv .1) (inv .0 .within) (c .before .loop-test .left))
 
 pub mark-spec : {M : Type 1} → statement M
 mark-spec =
