@@ -1,6 +1,7 @@
 -- THE LINES, CUT ONE BY ONE.
 --   cut-line, last-line   the first line where LF ends it, and where it does not
 --   next-line, end-line   the same of the line at a place, as a part that is lent
+--   line-within, line-inside, line-passed   a line ends no later than the bytes, and before their end where it is ended; behind it less is left
 --   starts-go, starts-last, starts-end   where the lines from a place on start
 --   by-first, by-further  what line 1 has, and what every further line has; by-ap: a function of it
 use Prim.Native.Nat.{ℕ, suc, _+_, _-_, _<_, _≤_}
@@ -13,6 +14,7 @@ use lib.ListN.{length, take, drop, length-drop, drop-of-length-le}
 use lib.Seq.{drop-drop, take-all, length-take-le}
 use borrow.Author.Tests.{eq-eqb, ne-eqb}
 use Rattle.laws.specs.Bytes.{Bytes, span}
+use Rattle.laws.proofs.Loops.{span-le}
 use Rattle.laws.proofs.Tests.{bool-cases}
 use Rattle.frames.specs.Lines.{Line, notEnd, inFront, lines, startsFrom}
 use Rattle.frames.specs.Fields.{byLine}
@@ -76,6 +78,15 @@ module _ (s : Bytes) (at n : ℕ) (e : span notEnd (drop at s) ≡ n) where
 
   pub starts-last : at < length s → at + n ≡ length s → startsFrom at (lines (drop at s)) ≡ at ∷ []
   starts-last h l = rw (end-line h l)
+
+pub line-within : (s : Bytes) (at n : ℕ) → span notEnd (drop at s) ≡ n → at < length s → at + n ≤ length s
+line-within s at n e h = omega (arith, e, h, span-le notEnd (drop at s), length-drop at s)
+
+pub line-inside : (end m : ℕ) → end ≤ m → (end ≡ m → ⊥) → end < m
+line-inside end m h d = omega (arith, h, d)
+
+pub line-passed : (at n m : ℕ) → at + n < m → m - (at + n + 1) < m - at
+line-passed at n m h = omega (arith, h)
 
 pub starts-end : (s : Bytes) (at : ℕ) → length s ≤ at → startsFrom at (lines (drop at s)) ≡ []
 starts-end s at h = rw (drop-of-length-le s h)

@@ -1,4 +1,5 @@
 -- A WALK OVER A FRAME: `at` is the place that it has come to, and `left` the number of texts that are left.
+--   some, behind, passed, none-left                       there is a byte; a place behind the lead bytes, and behind a text; no text is left
 --   framed-none, framed-kind, framed-lead, framed-start   there is no byte; the kind differs; the lead bytes are not there; the texts begin
 --   holds-short, holds-over, holds-go, holds-end          there is no length byte; the text runs past the end; it is passed; none is left
 use Prim.Native.Nat.{ℕ, zero, suc, _+_, _-_, _<_, _≤_}
@@ -14,6 +15,22 @@ use Rattle.laws.specs.Bytes.{Bytes}
 use Rattle.laws.proofs.Loops.{drop-step}
 use Rattle.frames.specs.declared.Frame.{Frame}
 use Rattle.frames.specs.Frames.{holds, framed}
+
+-- ─── places, where m is the number of bytes ───
+
+pub some : (n m : ℕ) → n ≡ m → (m ≡ 0 → ⊥) → 0 < n
+some n m e d = omega (arith, e, d)
+
+pub behind : (n m k : ℕ) → n ≡ m → (m ≡ 0 → ⊥) → k ≤ m - 1 → 1 + k ≤ n
+behind n m k e d h = omega (arith, e, d, h)
+
+pub passed : (n m at b : ℕ) → n ≡ m → at < m → b ≤ m - (at + 1) → at + 1 + b ≤ n
+passed n m at b e h k = omega (arith, e, h, k)
+
+pub none-left : (n : ℕ) → n ≤ 0 → n ≡ 0
+none-left n h = omega (arith, h)
+
+-- ─── the bytes ───
 
 module _ (f : Frame) where
   pub framed-none : (s : Bytes) → length s ≡ 0 → framed f s ≡ false

@@ -1,15 +1,15 @@
 -- `frames::lines::line_starts` meets its contract. The invariant: with the starts of the lines from `at` on put behind what is written, as far as the table goes, it is what is promised.
 use Rattle.frames.proofs.Tables.{fill-go, fill-full, fill-none}
-use Rattle.frames.proofs.Cuts.{starts-go, starts-last, starts-end}
+use Rattle.frames.proofs.Cuts.{line-within, line-inside, line-passed, starts-go, starts-last, starts-end}
 use Rattle.frames.specs.Lines.{notEnd, lines, startsFrom, starts}
-use Rattle.laws.proofs.Loops.{drop-part, span-le}
+use Rattle.laws.proofs.Loops.{drop-part}
 use Rattle.laws.specs.Put.{putAt}
 use Rattle.laws.specs.Bytes.{span}
-use lib.ListN.{length, take, drop, set, length-set, length-drop}
+use lib.ListN.{length, take, drop, set, length-set}
 use mathlib.Core.List.{List, []}
 use mathlib.Core.Path.{_≡_, refl, sym, _∙_, ap}
 use native.Mathlib.Omega.{arith}
-use Prim.Native.Nat.{ℕ, _-_, _+_, _≤_}
+use Prim.Native.Nat.{ℕ, _-_, _+_, _≤_, _<_}
 use borrow.Author.Needs.{needs}
 use Rattle.frames.proofs.lines.line_starts.Statement.{statement}
 use Rattle.frames.proofs.lines.line_starts.Tie as tie
@@ -28,7 +28,15 @@ length-is c = sym (c .line-length .ensures ∙ ap (span notEnd) (drop-part (c .b
 
 -- it is no farther than the end
 within : (c : tie.After-line-length Inv-loop μ-loop) → c .before .before .before .before .loop .at + c .line-length .result ≤ length (c .before .before .before .before .before .before .before .args .list .now)
-within c = omega (arith, length-is c, span-le notEnd (drop (c .before .before .before .before .loop .at) (c .before .before .before .before .before .before .before .args .list .now)), length-drop (c .before .before .before .before .loop .at) (c .before .before .before .before .before .before .before .args .list .now))
+within c = line-within (c .before .before .before .before .before .before .before .args .list .now) (c .before .before .before .before .loop .at) (c .line-length .result) (length-is c) (c .before .before .before .loop-test .taken)
+
+-- and before it, where the line is ended
+inside : (c : tie.Else2 Inv-loop μ-loop) → c .before .before .before .before .before .loop .at + c .before .line-length .result < length (c .before .before .before .before .before .before .before .before .args .list .now)
+inside c = line-inside _ _ (within (c .before)) (c .if2 .left)
+
+-- the table is as long as it was
+room : (c : tie.Else1 Inv-loop μ-loop) → c .before .before .loop .done < length (c .before .before .before .before .before .args .table .now)
+room c = rw (c .before .before .loop .inv .0) at (c .if1 .left)
 
 loop-holds : tie.Need-loop-holds Inv-loop μ-loop
 loop-holds c = (refl, let e : length (c .before .before .args .table .now) - 0 ≡ length (c .before .before .args .table .now) = omega arith in rw e)
@@ -40,7 +48,7 @@ returns : tie.Need-returns Inv-loop μ-loop
 returns c =
     let l = c .before .before .loop in
     let x = c .before .before .before .before .before .args in
-    sym (l .inv .1 ∙ fill-full (l .table) (l .done) (length (x .table .now)) (startsFrom (l .at) (lines (drop (l .at) (x .list .now)))) (omega arith))
+    sym (l .inv .1 ∙ fill-full (l .table) (l .done) (length (x .table .now)) (startsFrom (l .at) (lines (drop (l .at) (x .list .now)))) (rw (l .inv .0) at (c .if1 .taken)))
 
 mul-table : tie.Need-mul-table Inv-loop μ-loop
 mul-table c = search needs
@@ -77,14 +85,14 @@ returns-2 c =
     let s = starts-last (x .list .now) (l .at) (c .before .line-length .result) (length-is (c .before)) (c .before .before .before .before .loop-test .taken) (c .if2 .taken) in
     sym (l .inv .1
     ∙ ap (λ (t : List ℕ). putAt (l .table) (l .done) (take (n - l .done) t)) s
-    ∙ fill-go (l .table) (l .done) n (l .at) [] (omega arith) (omega arith)
+    ∙ fill-go (l .table) (l .done) n (l .at) [] (c .before .before .before .if1 .left) (room (c .before .before .before))
     ∙ fill-none (set (l .table) (l .done) (l .at)) (l .done + 1) n)
 
 add-at-2 : tie.Need-add-at-2 Inv-loop μ-loop
-add-at-2 c = omega (arith, within (c .before))
+add-at-2 c = omega (arith, inside c)
 
 loop-less : tie.Need-loop-less Inv-loop μ-loop
-loop-less c = omega (arith, within (c .before))
+loop-less c = line-passed _ _ _ (inside c)
 
 loop-again : tie.Need-loop-again Inv-loop μ-loop
 loop-again c =
@@ -92,11 +100,11 @@ loop-again c =
     let x = c .before .before .before .before .before .before .before .before .args in
     let n = length (x .table .now) in
     let at = l .at + c .before .line-length .result + 1 in
-    let s = starts-go (x .list .now) (l .at) (c .before .line-length .result) (length-is (c .before)) (omega (arith, within (c .before), c .if2 .left)) in (
+    let s = starts-go (x .list .now) (l .at) (c .before .line-length .result) (length-is (c .before)) (inside c) in (
       simp length-set (l .inv .0),
       l .inv .1
           ∙ ap (λ (t : List ℕ). putAt (l .table) (l .done) (take (n - l .done) t)) s
-          ∙ fill-go (l .table) (l .done) n (l .at) (startsFrom at (lines (drop at (x .list .now)))) (omega arith) (omega arith),
+          ∙ fill-go (l .table) (l .done) n (l .at) (startsFrom at (lines (drop at (x .list .now)))) (c .before .before .before .if1 .left) (room (c .before .before .before)),
     )
 
 same-length-3 : tie.Need-same-length-3 Inv-loop μ-loop
