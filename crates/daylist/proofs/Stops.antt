@@ -1,16 +1,16 @@
 -- THE STAGES, line by line: k lines are done, `at` is where the next line starts, and n bytes of it stand before the next LF.
---   frames-lacks, frames-no-hex, frames-unframed   23 finds a fault: the line lacks LF, is not hexadecimal, or is not a frame of its kind
---   frames-go, frames-end                          the line is a frame; there is none
---   frames-count                                   where each line is a frame, their number is told
---   values-bad, values-go, values-end              26 finds a fault, or not; there is no line
---   list-long                                      21
---   list-ceiling-low, list-ceiling-high            22
---   list-lines                                     what is left to the lines
+--   frames-lacks, frames-not             23 finds a fault: the line lacks LF, or is not hexadecimal and a frame of its kind
+--   frames-go, frames-end                the line is a frame; there is none
+--   frames-count                         where each line is a frame, their number is told
+--   values-bad, values-go, values-end    26 finds a fault, or not; there is no line
+--   list-long                            21
+--   list-ceiling-low, list-ceiling-high  22
+--   list-lines                           what is left to the lines
 --   lines-refused, lines-few, lines-many, lines-bad, lines-good   23, 24, 25 and 26 find a fault, or none does
 use Prim.Native.Nat.{ℕ, suc, _+_, _-_, _<_, _≤_}
 use native.Mathlib.Decide.{decLt}
 use native.Mathlib.Omega.{arith}
-use mathlib.Core.Bool.{Bool, true, false, and-false}
+use mathlib.Core.Bool.{Bool, true, false, _&&_, and-false}
 use mathlib.Core.List.{List, [], _∷_}
 use mathlib.Core.Path.{_≡_, ap, sym, _∙_}
 use lib.ListN.{length, take, drop, length-drop, drop-of-length-le}
@@ -36,15 +36,12 @@ module _ (s : Bytes) (at n : ℕ) (e : span notEnd (drop at s) ≡ n) where
     frames-lacks h l = rw (end-line s at n e h l)
 
     module _ (h : at + n < length s) where
-      pub frames-no-hex : hex (take (at + n - at) (drop at s)) ≡ false → Refused (NotAFrame (k + 1)) ≡ framesFrom k (lines (drop at s))
-      frames-no-hex x = rw (next-line s at n e h, x)
+      pub frames-not : (hex (take (at + n - at) (drop at s)) && framed (frameOf (k + 1)) (unhex (take (at + n - at) (drop at s)))) ≡ false → Refused (NotAFrame (k + 1)) ≡ framesFrom k (lines (drop at s))
+      frames-not x = rw (next-line s at n e h, x)
 
-      pub frames-unframed : framed (frameOf (k + 1)) (unhex (take (at + n - at) (drop at s))) ≡ false → Refused (NotAFrame (k + 1)) ≡ framesFrom k (lines (drop at s))
-      frames-unframed f = rw (next-line s at n e h, f, and-false)
-
-      pub frames-go : hex (take (at + n - at) (drop at s)) ≡ true → framed (frameOf (k + 1)) (unhex (take (at + n - at) (drop at s))) ≡ true
+      pub frames-go : (hex (take (at + n - at) (drop at s)) && framed (frameOf (k + 1)) (unhex (take (at + n - at) (drop at s)))) ≡ true
           → framesFrom k (lines (drop at s)) ≡ framesFrom (k + 1) (lines (drop (at + n + 1) s))
-      frames-go x f = rw (next-line s at n e h, x, f)
+      frames-go x = rw (next-line s at n e h, x)
 
     -- a line's values count whether LF ends it or not
     values-line : at < length s → valuesFrom k (lines (drop at s)) ≡ ofLine (judgedLine (k + 1) (unhex (take (at + n - at) (drop at s)))) (k + 1) (valuesFrom (k + 1) (lines (drop (at + n + 1) s)))

@@ -1,14 +1,27 @@
 // The stages that go over all lines of a list.
 ghost use mathlib.Core.Path.{_≡_};
+ghost use mathlib.Core.Bool.{_&&_};
 ghost use Prim.Native.Nat.{_≤_};
 ghost use lib.ListN.{length};
 ghost use Rattle.profile.specs.Limits.{mostBytes};
 ghost use Rattle.frames.specs.Lines.{lines};
+ghost use Rattle.frames.specs.Hex.{hex, unhex};
+ghost use Rattle.frames.specs.Frames.{frameOf, framed};
 ghost use Rattle.daylist.specs.Stages.{framesFrom, valuesFrom};
 use crate::JudgedList;
 use crate::values;
 use profile::ListRefusal;
 use text::Judged;
+
+// Whether the bytes of line `number` are hexadecimal, and a frame of its kind.
+fn holds_frame(line: &[u8], number: usize) -> bool
+    ensures { λ r. ⌜ r ≡ (hex (now (line .entry)) && framed (frameOf number) (unhex (now (line .entry)))) ⌝ }
+{
+    if !frames::hex::is_hex(line) {
+        return false;
+    }
+    frames::is_framed(line, frames::frame_of(number))
+}
 
 // Stage 23: the first line that is not a frame of its kind, or lacks LF. Good tells the number of lines.
 pub fn judge_frames(list: &[u8]) -> JudgedList
@@ -21,10 +34,7 @@ pub fn judge_frames(list: &[u8]) -> JudgedList
         if end == list.len() {
             return JudgedList::Refused(ListRefusal::NotAFrame(done + 1));
         }
-        if !frames::hex::is_hex(&list[at..end]) {
-            return JudgedList::Refused(ListRefusal::NotAFrame(done + 1));
-        }
-        if !frames::is_framed(&list[at..end], frames::frame_of(done + 1)) {
+        if !holds_frame(&list[at..end], done + 1) {
             return JudgedList::Refused(ListRefusal::NotAFrame(done + 1));
         }
         done += 1;

@@ -1,13 +1,12 @@
 -- `daylist::stages::judge_frames` meets its contract. The invariant: the list is judged as its rest from `at` on is, behind the lines that are done.
-use Rattle.frames.specs.Frames.{frameOf, framed}
-use Rattle.frames.specs.Hex.{unhex}
-use Rattle.daylist.proofs.Stops.{frames-lacks, frames-no-hex, frames-unframed, frames-go, frames-end}
+use Rattle.daylist.proofs.Stops.{frames-lacks, frames-not, frames-go, frames-end}
 use Rattle.daylist.specs.Stages.{framesFrom}
+use Rattle.frames.proofs.Cuts.{line-within, line-inside, line-passed}
 use Rattle.frames.specs.Lines.{notEnd, lines}
-use Rattle.laws.proofs.Loops.{drop-part, span-le}
+use Rattle.laws.proofs.Loops.{drop-part}
 use Rattle.laws.specs.Bytes.{span}
 use borrow.Author.Tests.{not-true, not-false}
-use lib.ListN.{length, take, drop, length-drop}
+use lib.ListN.{length, drop}
 use mathlib.Core.Path.{_≡_, refl, sym, _∙_, ap}
 use native.Mathlib.Omega.{arith}
 use Prim.Native.Nat.{_-_, _≤_, _+_, _<_}
@@ -27,18 +26,11 @@ length-is c = sym (c .line-length .ensures ∙ ap (span notEnd) (drop-part (c .b
 
 -- it is no farther than the end
 within : (c : tie.After-line-length Inv-loop μ-loop) → c .before .before .before .loop .at + c .line-length .result ≤ length (c .before .before .before .before .before .args .list .now)
-within c = omega (arith, length-is c, span-le notEnd (drop (c .before .before .before .loop .at) (c .before .before .before .before .before .args .list .now)), length-drop (c .before .before .before .loop .at) (c .before .before .before .before .before .args .list .now))
+within c = line-within (c .before .before .before .before .before .args .list .now) (c .before .before .before .loop .at) (c .line-length .result) (length-is c) (c .before .before .loop-test .taken)
 
 -- and before it, where the line is ended
 inside : (c : tie.Else1 Inv-loop μ-loop) → c .before .before .before .before .loop .at + c .before .line-length .result < length (c .before .before .before .before .before .before .args .list .now)
-inside c = omega (arith, within (c .before), c .if1 .left)
-
--- what `is_framed` answers, of the frame that the line must hold
-framed-is :
-    (c : tie.After-is-framed Inv-loop μ-loop) →
-    (let l = c .before .before .before .before .before .before .before .before .before .before .loop in
-    framed (frameOf (l .done + 1)) (unhex (take (l .at + c .before .before .before .before .before .before .before .line-length .result - l .at) (drop (l .at) (c .before .before .before .before .before .before .before .before .before .before .before .before .args .list .now)))) ≡ c .is-framed .result)
-framed-is c = rw (c .before .frame-of .ensures) at (sym (c .is-framed .ensures))
+inside c = line-inside _ _ (within (c .before)) (c .if1 .left)
 
 loop-holds : tie.Need-loop-holds Inv-loop μ-loop
 loop-holds c = (search needs, refl)
@@ -64,17 +56,20 @@ add-t11 c = search needs
 returns : tie.Need-returns Inv-loop μ-loop
 returns c = let l = c .before .before .before .before .loop in frames-lacks (c .before .before .before .before .before .before .args .list .now) (l .at) (c .before .line-length .result) (length-is (c .before)) (l .done) (c .before .before .before .loop-test .taken) (c .if1 .taken) ∙ sym (l .inv .1)
 
-sub-is-hex : tie.Need-sub-is-hex Inv-loop μ-loop
-sub-is-hex c = search needs
+sub-holds-frame : tie.Need-sub-holds-frame Inv-loop μ-loop
+sub-holds-frame c = search needs
 
-part-is-hex-start : tie.Need-part-is-hex-start Inv-loop μ-loop
-part-is-hex-start c = search needs
+part-holds-frame-start : tie.Need-part-holds-frame-start Inv-loop μ-loop
+part-holds-frame-start c = search needs
 
-part-is-hex-end : tie.Need-part-is-hex-end Inv-loop μ-loop
-part-is-hex-end c = within (c .before)
+part-holds-frame-end : tie.Need-part-holds-frame-end Inv-loop μ-loop
+part-holds-frame-end c = within (c .before)
 
-is-hex-requires : tie.Need-is-hex-requires Inv-loop μ-loop
-is-hex-requires c κs = search needs
+add-holds-frame : tie.Need-add-holds-frame Inv-loop μ-loop
+add-holds-frame c = search needs
+
+holds-frame-requires : tie.Need-holds-frame-requires Inv-loop μ-loop
+holds-frame-requires c κs = search needs
 
 add-t17 : tie.Need-add-t17 Inv-loop μ-loop
 add-t17 c = search needs
@@ -82,50 +77,24 @@ add-t17 c = search needs
 returns-2 : tie.Need-returns-2 Inv-loop μ-loop
 returns-2 c =
     let l = c .before .before .before .before .before .before .before .loop in
-    frames-no-hex (c .before .before .before .before .before .before .before .before .before .args .list .now) (l .at) (c .before .before .before .before .line-length .result) (length-is (c .before .before .before .before)) (l .done) (inside (c .before .before .before)) (sym (c .before .is-hex .ensures) ∙ not-true _ (c .if2 .taken)) ∙ sym (l .inv .1)
-
-sub-is-framed : tie.Need-sub-is-framed Inv-loop μ-loop
-sub-is-framed c = search needs
-
-part-is-framed-start : tie.Need-part-is-framed-start Inv-loop μ-loop
-part-is-framed-start c = search needs
-
-part-is-framed-end : tie.Need-part-is-framed-end Inv-loop μ-loop
-part-is-framed-end c = within (c .before .before .before .before)
-
-add-frame-of : tie.Need-add-frame-of Inv-loop μ-loop
-add-frame-of c = search needs
-
-frame-of-requires : tie.Need-frame-of-requires Inv-loop μ-loop
-frame-of-requires c κs = search needs
-
-is-framed-requires : tie.Need-is-framed-requires Inv-loop μ-loop
-is-framed-requires c κs = search needs
-
-add-t23 : tie.Need-add-t23 Inv-loop μ-loop
-add-t23 c = search needs
-
-returns-3 : tie.Need-returns-3 Inv-loop μ-loop
-returns-3 c =
-    let l = c .before .before .before .before .before .before .before .before .before .before .before .loop in
-    frames-unframed (c .before .before .before .before .before .before .before .before .before .before .before .before .before .args .list .now) (l .at) (c .before .before .before .before .before .before .before .before .line-length .result) (length-is (c .before .before .before .before .before .before .before .before)) (l .done) (inside (c .before .before .before .before .before .before .before)) (framed-is (c .before) ∙ not-true _ (c .if3 .taken)) ∙ sym (l .inv .1)
+    frames-not (c .before .before .before .before .before .before .before .before .before .args .list .now) (l .at) (c .before .before .before .before .line-length .result) (length-is (c .before .before .before .before)) (l .done) (inside (c .before .before .before)) (sym (c .before .holds-frame .ensures) ∙ not-true _ (c .if2 .taken)) ∙ sym (l .inv .1)
 
 add-done : tie.Need-add-done Inv-loop μ-loop
 add-done c = search needs
 
 add-at : tie.Need-add-at Inv-loop μ-loop
-add-at c = omega (arith, inside (c .before .before .before .before .before .before .before))
+add-at c = omega (arith, inside (c .before .before .before))
 
 loop-less : tie.Need-loop-less Inv-loop μ-loop
-loop-less c = omega (arith, inside (c .before .before .before .before .before .before .before))
+loop-less c = line-passed _ _ _ (inside (c .before .before .before))
 
 loop-again : tie.Need-loop-again Inv-loop μ-loop
 loop-again c =
-    let l = c .before .before .before .before .before .before .before .before .before .before .before .loop in
-    (omega arith, l .inv .1 ∙ frames-go (c .before .before .before .before .before .before .before .before .before .before .before .before .before .args .list .now) (l .at) (c .before .before .before .before .before .before .before .before .line-length .result) (length-is (c .before .before .before .before .before .before .before .before)) (l .done) (inside (c .before .before .before .before .before .before .before)) (sym (c .before .before .before .before .before .is-hex .ensures) ∙ not-false _ (c .before .before .before .before .if2 .left)) (framed-is (c .before) ∙ not-false _ (c .if3 .left)))
+    let l = c .before .before .before .before .before .before .before .loop in
+    (omega arith, l .inv .1 ∙ frames-go (c .before .before .before .before .before .before .before .before .before .args .list .now) (l .at) (c .before .before .before .before .line-length .result) (length-is (c .before .before .before .before)) (l .done) (inside (c .before .before .before)) (sym (c .before .holds-frame .ensures) ∙ not-false _ (c .if2 .left)))
 
-returns-4 : tie.Need-returns-4 Inv-loop μ-loop
-returns-4 c = frames-end (c .before .before .before .args .list .now) (c .before .loop .at) (c .before .loop .done) (c .loop-test .left) ∙ sym (c .before .loop .inv .1)
+returns-3 : tie.Need-returns-3 Inv-loop μ-loop
+returns-3 c = frames-end (c .before .before .before .args .list .now) (c .before .loop .at) (c .before .loop .done) (c .loop-test .left) ∙ sym (c .before .loop .inv .1)
 
 pub judge-frames-spec : {M : Type 1} → statement M
 judge-frames-spec =
@@ -141,22 +110,15 @@ judge-frames-spec =
     add-end
     add-t11
     returns
-    sub-is-hex
-    part-is-hex-start
-    part-is-hex-end
-    is-hex-requires
+    sub-holds-frame
+    part-holds-frame-start
+    part-holds-frame-end
+    add-holds-frame
+    holds-frame-requires
     add-t17
     returns-2
-    sub-is-framed
-    part-is-framed-start
-    part-is-framed-end
-    add-frame-of
-    frame-of-requires
-    is-framed-requires
-    add-t23
-    returns-3
     add-done
     add-at
     loop-less
     loop-again
-    returns-4)
+    returns-3)

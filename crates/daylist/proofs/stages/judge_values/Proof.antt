@@ -1,10 +1,11 @@
 -- `daylist::stages::judge_values` meets its contract. The invariant: the list is judged as its rest from `at` on is, behind the lines that are done.
 use Rattle.daylist.proofs.Stops.{values-bad, values-go, values-end}
 use Rattle.daylist.specs.Stages.{valuesFrom}
+use Rattle.frames.proofs.Cuts.{line-within}
 use Rattle.frames.specs.Lines.{notEnd, lines}
-use Rattle.laws.proofs.Loops.{drop-part, span-le}
+use Rattle.laws.proofs.Loops.{drop-part}
 use Rattle.laws.specs.Bytes.{span}
-use lib.ListN.{length, drop, length-drop}
+use lib.ListN.{length, drop}
 use mathlib.Core.Path.{_≡_, refl, sym, _∙_, ap}
 use native.Mathlib.Omega.{arith}
 use Prim.Native.Nat.{_-_, _≤_, _+_}
@@ -24,7 +25,7 @@ length-is c = sym (c .line-length .ensures ∙ ap (span notEnd) (drop-part (c .b
 
 -- it is no farther than the end
 within : (c : tie.After-line-length Inv-loop μ-loop) → c .before .before .before .loop .at + c .line-length .result ≤ length (c .before .before .before .before .before .args .list .now)
-within c = omega (arith, length-is c, span-le notEnd (drop (c .before .before .before .loop .at) (c .before .before .before .before .before .args .list .now)), length-drop (c .before .before .before .loop .at) (c .before .before .before .before .before .args .list .now))
+within c = line-within (c .before .before .before .before .before .args .list .now) (c .before .before .before .loop .at) (c .line-length .result) (length-is c) (c .before .before .loop-test .taken)
 
 loop-holds : tie.Need-loop-holds Inv-loop μ-loop
 loop-holds c = (search needs, refl)
