@@ -4,6 +4,7 @@
 --   listed-number           there is a collection for each line but the first
 --   numbers-length          and a number for each; numbers-fit: as many as the table of starts has, but for one
 --   collection-at           collection i, from its line
+--   row-there, set-less, set-within   the table has a place for line i + 1; with number i written, less is left, and i + 1 are there
 --   start-there, number-read   line i + 1 starts within the list; the number of what is read there
 --   starts-whole            a table with a place for each line holds the starts and nothing else
 use Prim.Native.Nat.{ℕ, zero, suc, _+_, _-_, _*_, _<_, _≤_, min}
@@ -12,7 +13,7 @@ use native.Mathlib.Omega.{arith}
 use mathlib.Core.Bool.{false}
 use mathlib.Core.List.{List, [], _∷_, map}
 use mathlib.Core.Path.{_≡_, refl, ap, sym, _∙_}
-use lib.ListN.{length, take, drop, getD, length-map, length-drop, drop-of-length-le}
+use lib.ListN.{length, take, drop, getD, set, length-set, length-map, length-drop, drop-of-length-le}
 use lib.Seq.{getD-drop, take-all}
 use Rattle.laws.specs.Bytes.{Bytes, span}
 use Rattle.laws.specs.Put.{putAt}
@@ -89,6 +90,17 @@ number-at s i h =
 
 pub numbers-fit : (s : Bytes) (t : List ℕ) (n : ℕ) → t ≡ starts s → n + 1 ≡ length t → n ≡ length (numbersOf s)
 numbers-fit s t n e h = omega (arith, ap length e, starts-number s, numbers-length s)
+
+-- of n numbers, as many as the m that were lent, number i is to be written
+pub row-there : (i n m k : ℕ) → i < n → n ≡ m → m + 1 ≡ k → i + 1 < k
+row-there i n m k h a b = omega (arith, h, a, b)
+
+module _ (l : List ℕ) (i v : ℕ) (h : i < length l) where
+  pub set-less : length (set l i v) - (i + 1) < length l - i
+  set-less = rw (length-set l i v) (omega (arith, h))
+
+  pub set-within : i + 1 ≤ length (set l i v)
+  set-within = rw (length-set l i v) (omega (arith, h))
 
 -- t is the table of starts, and collection i stands in line i + 1, counted from 0
 module _ (s : Bytes) (t : List ℕ) (e : t ≡ starts s) (i : ℕ) (h : i + 1 < length t) where

@@ -1,13 +1,15 @@
 -- `listed::terms_numbers` meets its contract. The invariant: with the numbers of the collections from i on put behind those that are written, they are all that is promised.
-use Rattle.listed.proofs.Lines.{numbers-fit, start-there, number-read}
+use Rattle.listed.proofs.Lines.{numbers-fit, row-there, set-less, set-within, start-there, number-read}
 use Rattle.listed.specs.Listed.{numbersOf}
+use Rattle.frames.proofs.Cuts.{line-within}
 use Rattle.frames.specs.Lines.{notEnd}
-use Rattle.laws.proofs.Loops.{drop-part, span-le}
+use Rattle.laws.proofs.Loops.{drop-part}
 use Rattle.laws.proofs.Puts.{put-nil, put-all, put-step}
 use Rattle.laws.specs.Put.{putAt}
 use Rattle.laws.specs.Bytes.{span}
-use lib.ListN.{length, drop, getD, set, length-set, length-drop, drop-of-length-le}
+use lib.ListN.{length, drop, getD, set, length-set, drop-of-length-le}
 use mathlib.Core.Path.{_≡_, refl, sym, _∙_, ap}
+use native.Mathlib.Nat.{le-of-lt}
 use native.Mathlib.Omega.{arith}
 use Prim.Native.Nat.{ℕ, _+_, _-_, _<_, _≤_}
 use borrow.Author.Needs.{needs}
@@ -26,7 +28,7 @@ there : (c : tie.In-loop Inv-loop μ-loop) → getD (c .before .before .before .
 there c =
     let x = c .before .before .before .before .before .args in
     let p = c .before .before .before .before .before .pre in
-    start-there (x .list .now) (x .table .now) (p .0) (c .before .loop .i) (omega (arith, p .1, c .before .loop .inv .0))
+    start-there (x .list .now) (x .table .now) (p .0) (c .before .loop .i) (row-there _ _ _ _ (c .loop-test .taken) (c .before .loop .inv .0) (p .1))
 
 -- how far its LF is
 length-is : (c : tie.After-line-length Inv-loop μ-loop) → c .line-length .result ≡ span notEnd (drop (getD (c .before .before .before .before .before .before .before .before .args .table .now) (c .before .before .before .before .loop .i + 1) 0) (c .before .before .before .before .before .before .before .before .args .list .now))
@@ -38,8 +40,7 @@ length-is c =
 within : (c : tie.After-line-length Inv-loop μ-loop) → getD (c .before .before .before .before .before .before .before .before .args .table .now) (c .before .before .before .before .loop .i + 1) 0 + c .line-length .result ≤ length (c .before .before .before .before .before .before .before .before .args .list .now)
 within c =
     let x = c .before .before .before .before .before .before .before .before .args in
-    let at = getD (x .table .now) (c .before .before .before .before .loop .i + 1) 0 in
-    omega (arith, length-is c, there (c .before .before .before), span-le notEnd (drop at (x .list .now)), length-drop at (x .list .now))
+    line-within (x .list .now) (getD (x .table .now) (c .before .before .before .before .loop .i + 1) 0) (c .line-length .result) (sym (length-is c)) (there (c .before .before .before))
 
 loop-holds : tie.Need-loop-holds Inv-loop μ-loop
 loop-holds c =
@@ -57,10 +58,10 @@ shared-slice-read-at : tie.Need-shared-slice-read-at Inv-loop μ-loop
 shared-slice-read-at c = search needs
 
 sub-line-length : tie.Need-sub-line-length Inv-loop μ-loop
-sub-line-length c = omega (arith, there (c .before))
+sub-line-length c = le-of-lt (there (c .before))
 
 part-line-length-start : tie.Need-part-line-length-start Inv-loop μ-loop
-part-line-length-start c = omega (arith, there (c .before))
+part-line-length-start c = le-of-lt (there (c .before))
 
 part-line-length-end : tie.Need-part-line-length-end Inv-loop μ-loop
 part-line-length-end c = search needs
@@ -78,7 +79,7 @@ part-terms-number-start : tie.Need-part-terms-number-start Inv-loop μ-loop
 part-terms-number-start c = search needs
 
 part-terms-number-end : tie.Need-part-terms-number-end Inv-loop μ-loop
-part-terms-number-end c = omega (arith, within c)
+part-terms-number-end c = within c
 
 terms-number-requires : tie.Need-terms-number-requires Inv-loop μ-loop
 terms-number-requires c κs = search needs
@@ -93,19 +94,20 @@ add-i : tie.Need-add-i Inv-loop μ-loop
 add-i c = search needs
 
 loop-less : tie.Need-loop-less Inv-loop μ-loop
-loop-less c = simp length-set (omega arith)
+loop-less c = let l = c .before .before .before .before .before .before .loop in set-less (l .numbers) (l .i) _ (c .before .before .before .before .before .loop-test .taken)
 
 loop-again : tie.Need-loop-again Inv-loop μ-loop
 loop-again c =
     let l = c .before .before .before .before .before .before .loop in
     let x = c .before .before .before .before .before .before .before .before .before .before .args in
     let p = c .before .before .before .before .before .before .before .before .before .before .pre in
-    let r = number-read (x .list .now) (x .table .now) (p .0) (l .i) (omega (arith, p .1, l .inv .0)) (c .before .before .line-length .result) (c .terms-number .result) (length-is (c .before .before)) (c .terms-number .ensures) in
-    let n : l .i < length (numbersOf (x .list .now)) = omega (arith, l .inv .0, numbers-fit (x .list .now) (x .table .now) (length (x .numbers .now)) (p .0) (p .1)) in (
+    let h = c .before .before .before .before .before .loop-test .taken in
+    let r = number-read (x .list .now) (x .table .now) (p .0) (l .i) (row-there _ _ _ _ h (l .inv .0) (p .1)) (c .before .before .line-length .result) (c .terms-number .result) (length-is (c .before .before)) (c .terms-number .ensures) in
+    let n : l .i < length (numbersOf (x .list .now)) = rw (← numbers-fit (x .list .now) (x .table .now) (length (x .numbers .now)) (p .0) (p .1), ← (l .inv .0)) h in (
       simp length-set (l .inv .0),
-      simp length-set (omega arith),
+      set-within (l .numbers) (l .i) _ h,
       ap (λ (v : ℕ). putAt (set (l .numbers) (l .i) v) (l .i + 1) (drop (l .i + 1) (numbersOf (x .list .now)))) r
-          ∙ put-step (l .numbers) (numbersOf (x .list .now)) (l .i) (l .i) n (omega arith)
+          ∙ put-step (l .numbers) (numbersOf (x .list .now)) (l .i) (l .i) n h
           ∙ l .inv .2,
     )
 
@@ -117,7 +119,7 @@ returns c =
     let l = c .before .loop in
     let x = c .before .before .before .before .before .args in
     let p = c .before .before .before .before .before .pre in
-    let d = drop-of-length-le (numbersOf (x .list .now)) {i = l .i} (omega (arith, l .inv .0, numbers-fit (x .list .now) (x .table .now) (length (x .numbers .now)) (p .0) (p .1))) in
+    let d = drop-of-length-le (numbersOf (x .list .now)) {i = l .i} (rw (← numbers-fit (x .list .now) (x .table .now) (length (x .numbers .now)) (p .0) (p .1), ← (l .inv .0)) (c .loop-test .left)) in
     sym (put-nil (l .numbers) (l .i)) ∙ ap (putAt (l .numbers) (l .i)) (sym d) ∙ l .inv .2
 
 pub terms-numbers-spec : {M : Type 1} → statement M
