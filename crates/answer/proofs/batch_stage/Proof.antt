@@ -1,4 +1,5 @@
 -- `answer::batch_stage` meets its contract, case by case.
+use mathlib.Core.Path.{refl}
 use borrow.Author.Needs.{needs}
 use Rattle.answer.proofs.batch_stage.Statement.{statement}
 use Rattle.answer.proofs.batch_stage.Tie as tie
@@ -16,10 +17,10 @@ returns : tie.Need-returns
 returns c = search needs
 
 returns-2 : tie.Need-returns-2
-returns-2 c = cc
+returns-2 c = rw (c .before .fault .given .1) refl
 
 returns-3 : tie.Need-returns-3
-returns-3 c = cc
+returns-3 c = rw (c .before .fault2 .given .1) refl
 
 pub batch-stage-spec : {M : Type 1} → statement M
 batch-stage-spec =
