@@ -16,16 +16,16 @@ slice-aggregate-put-behind : tie.Need-slice-aggregate-put-behind
 slice-aggregate-put-behind c = refl
 
 put-behind-requires : tie.Need-put-behind-requires
-put-behind-requires c κs = search needs
+put-behind-requires c κs = (record { is = c .before .before .before .before .before .before .before .before .before .pre .0; there = omega arith }, omega (arith, c .before .before .before .before .put .ensures .end, c .before .before .before .before .before .before .before .before .before .pre .1))
 
 slice-aggregate-put-behind-2 : tie.Need-slice-aggregate-put-behind-2
 slice-aggregate-put-behind-2 c = refl
 
 put-behind-requires-2 : tie.Need-put-behind-requires-2
-put-behind-requires-2 c κs = search needs
+put-behind-requires-2 c κs = (record { is = c .before .before .before .before .before .before .before .before .before .before .before .before .before .before .pre .0; there = omega arith }, omega (arith, c .before .before .before .before .put-behind .ensures .1, c .before .before .before .before .before .before .before .before .before .put .ensures .end, c .before .before .before .before .before .before .before .before .before .before .before .before .before .before .pre .1))
 
 returns : tie.Need-returns
-returns c = ((wrote-then _ _ (c .before .before .before .before .before .before .before .before .before .before .before .before .put .ensures) (wrote-then _ _ (c .before .before .before .before .before .before .before .put-behind .ensures .0) (c .before .before .put-behind2 .ensures .0))), omega arith)
+returns c = ((wrote-then _ _ (c .before .before .before .before .before .before .before .before .before .before .before .before .put .ensures) (wrote-then _ _ (c .before .before .before .before .before .before .before .put-behind .ensures .0) (c .before .before .put-behind2 .ensures .0))), omega (arith, c .before .before .put-behind2 .ensures .1, c .before .before .before .before .before .before .before .put-behind .ensures .1, c .before .before .before .before .before .before .before .before .before .before .before .before .put .ensures .end))
 
 same-length : tie.Need-same-length
 same-length c = returns c .0 .same

@@ -18,25 +18,25 @@ slice-aggregate-put : tie.Need-slice-aggregate-put
 slice-aggregate-put c = refl
 
 put-requires : tie.Need-put-requires
-put-requires c κs = search needs
+put-requires c κs = omega (arith, c .before .before .before .before .put-scheme .ensures .1, c .before .before .before .before .before .before .before .before .before .pre .1)
 
 byte-at-requires-2 : tie.Need-byte-at-requires-2
 byte-at-requires-2 c κs = search needs
 
 put-sequence-requires : tie.Need-put-sequence-requires
-put-sequence-requires c κs = search needs
+put-sequence-requires c κs = omega (arith, c .before .before .before .before .put .ensures .end, c .before .before .before .before .before .before .before .before .before .put-scheme .ensures .1, c .before .before .before .before .before .before .before .before .before .before .before .before .before .before .pre .1)
 
 slice-aggregate-put-behind : tie.Need-slice-aggregate-put-behind
 slice-aggregate-put-behind c = refl
 
 put-behind-requires : tie.Need-put-behind-requires
-put-behind-requires c κs = search needs
+put-behind-requires c κs = (record { is = c .before .before .before .before .before .before .before .before .before .before .before .before .before .before .before .before .before .before .before .pre .0; there = omega arith }, omega (arith, c .before .before .before .before .put-sequence .ensures .1, c .before .before .before .before .before .before .before .before .before .put .ensures .end, c .before .before .before .before .before .before .before .before .before .before .before .before .before .before .put-scheme .ensures .1, c .before .before .before .before .before .before .before .before .before .before .before .before .before .before .before .before .before .before .before .pre .1))
 
 slice-aggregate-put-2 : tie.Need-slice-aggregate-put-2
 slice-aggregate-put-2 c = refl
 
 put-requires-2 : tie.Need-put-requires-2
-put-requires-2 c κs = search needs
+put-requires-2 c κs = omega (arith, c .before .before .before .before .put-behind .ensures .1, c .before .before .before .before .before .before .before .before .before .put-sequence .ensures .1, c .before .before .before .before .before .before .before .before .before .before .before .before .before .before .put .ensures .end, c .before .before .before .before .before .before .before .before .before .before .before .before .before .before .before .before .before .before .before .put-scheme .ensures .1, c .before .before .before .before .before .before .before .before .before .before .before .before .before .before .before .before .before .before .before .before .before .before .before .before .pre .1)
 
 returns : tie.Need-returns
 returns c =
@@ -46,7 +46,7 @@ returns c =
     let sequence = c .before .before .before .before .before .before .before .before .before .before .before .before .before .byte-at2 .ensures ∙ sym (lead-at s 1 (omega arith)) in (
       wrote-then _ _ (rw scheme at (c .before .before .before .before .before .before .before .before .before .before .before .before .before .before .before .before .before .before .before .before .before .before .put-scheme .ensures .0))
           (wrote-then _ _ (c .before .before .before .before .before .before .before .before .before .before .before .before .before .before .before .before .before .put .ensures) (wrote-then _ _ (rw sequence at (c .before .before .before .before .before .before .before .before .before .before .before .before .put-sequence .ensures .0)) (wrote-then _ _ (c .before .before .before .before .before .before .before .put-behind .ensures .0) (c .before .before .put2 .ensures)))),
-      omega arith,
+      omega (arith, c .before .before .put2 .ensures .end, c .before .before .before .before .before .before .before .put-behind .ensures .1, c .before .before .before .before .before .before .before .before .before .before .before .before .put-sequence .ensures .1, c .before .before .before .before .before .before .before .before .before .before .before .before .before .before .before .before .before .put .ensures .end, c .before .before .before .before .before .before .before .before .before .before .before .before .before .before .before .before .before .before .before .before .before .before .put-scheme .ensures .1),
     )
 
 same-length : tie.Need-same-length

@@ -10,19 +10,19 @@ slice-aggregate-put-behind : tie.Need-slice-aggregate-put-behind
 slice-aggregate-put-behind c = refl
 
 put-behind-requires : tie.Need-put-behind-requires
-put-behind-requires c κs = search needs
+put-behind-requires c κs = (record { is = c .before .before .before .before .pre .0; there = omega arith }, omega (arith, c .before .before .before .before .pre .1))
 
 slice-aggregate-put : tie.Need-slice-aggregate-put
 slice-aggregate-put c = refl
 
 put-requires : tie.Need-put-requires
-put-requires c κs = search needs
+put-requires c κs = omega (arith, c .before .before .before .before .put-behind .ensures .1, c .before .before .before .before .before .before .before .before .before .pre .1)
 
 cents-of-requires : tie.Need-cents-of-requires
 cents-of-requires c κs = search needs
 
 put-euros-requires : tie.Need-put-euros-requires
-put-euros-requires c κs = search needs
+put-euros-requires c κs = omega (arith, c .before .before .before .before .put .ensures .end, c .before .before .before .before .before .before .before .before .before .put-behind .ensures .1, c .before .before .before .before .before .before .before .before .before .before .before .before .before .before .pre .1)
 
 slice-aggregate-put-behind-2 : tie.Need-slice-aggregate-put-behind-2
 slice-aggregate-put-behind-2 c = refl
