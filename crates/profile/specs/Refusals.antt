@@ -1,55 +1,62 @@
 -- THE REFUSALS: document 01's number and place of each case. To be believed; definitions only.
---   numberOf, placeOf           of a refusal of the check
---   listNumberOf, listPlaceOf   of a refusal of a day list
+--   Fault, fault n p, flawed n f p   a refusal as document 01 tells it, its number and its place; beside them the flaw of a text
+--   faultOf, listFaultOf             what each refusal of the check, and of a day list, is told as
+--   numberOf, placeOf, listNumberOf, listPlaceOf   its number, and its place
 use Prim.Native.Nat.{ℕ, _+_}
+use mathlib.Core.Option.{Option, none, some}
+use Rattle.profile.specs.declared.Flaw.{Flaw}
 use Rattle.profile.specs.declared.Refusal.{Refusal}
 use Rattle.profile.specs.declared.Refusal.the-variants.{TooLong, NotOfTheForm, TooManyBatches, TooManyTransactions, Text, BatchCount, BatchSum, MessageCount, MessageSum, SlipsTooShort, BatchesTooShort}
 use Rattle.profile.specs.declared.ListRefusal.{ListRefusal}
 use Rattle.profile.specs.declared.ListRefusal.the-variants.{TooLong as ListTooLong, Ceiling, NotAFrame, NoCollection, TooManyCollections, Value, TooManyBatches as BatchesNeeded, OutputTooShort}
-use Rattle.profile.specs.Limits.{mostBytes}
+use Rattle.profile.specs.Limits.{mostBytes, mostCollections}
+
+pub record Fault : Type 0 where
+  pub number : ℕ
+  pub place : ℕ
+  pub flaw : Option Flaw
+
+abbrev pub fault : ℕ → ℕ → Fault
+fault n p = record { number = n; place = p; flaw = none }
+
+abbrev pub flawed : ℕ → Flaw → ℕ → Fault
+flawed n f p = record { number = n; place = p; flaw = some f }
+
+-- ─── of the check ───
+
+abbrev pub faultOf : Refusal → Fault
+faultOf TooLong = fault 1 mostBytes
+faultOf (NotOfTheForm p) = fault 2 p
+faultOf (TooManyBatches p) = fault 3 p
+faultOf (TooManyTransactions p) = fault 4 p
+faultOf (Text f p) = flawed 5 f p
+faultOf (BatchCount p) = fault 6 p
+faultOf (BatchSum p) = fault 7 p
+faultOf (MessageCount p) = fault 8 p
+faultOf (MessageSum p) = fault 9 p
+faultOf (SlipsTooShort n) = fault 10 n
+faultOf (BatchesTooShort n) = fault 11 n
 
 abbrev pub numberOf : Refusal → ℕ
-numberOf TooLong = 1
-numberOf (NotOfTheForm p) = 2
-numberOf (TooManyBatches p) = 3
-numberOf (TooManyTransactions p) = 4
-numberOf (Text f p) = 5
-numberOf (BatchCount p) = 6
-numberOf (BatchSum p) = 7
-numberOf (MessageCount p) = 8
-numberOf (MessageSum p) = 9
-numberOf (SlipsTooShort n) = 10
-numberOf (BatchesTooShort n) = 11
+numberOf r = faultOf r .number
 
 abbrev pub placeOf : Refusal → ℕ
-placeOf TooLong = mostBytes
-placeOf (NotOfTheForm p) = p
-placeOf (TooManyBatches p) = p
-placeOf (TooManyTransactions p) = p
-placeOf (Text f p) = p
-placeOf (BatchCount p) = p
-placeOf (BatchSum p) = p
-placeOf (MessageCount p) = p
-placeOf (MessageSum p) = p
-placeOf (SlipsTooShort n) = n
-placeOf (BatchesTooShort n) = n
+placeOf r = faultOf r .place
+
+-- ─── of a day list ───
+
+abbrev pub listFaultOf : ListRefusal → Fault
+listFaultOf ListTooLong = fault 21 0
+listFaultOf Ceiling = fault 22 0
+listFaultOf (NotAFrame line) = fault 23 line
+listFaultOf (NoCollection lines) = fault 24 lines
+listFaultOf TooManyCollections = fault 25 (mostCollections + 2)  -- 1,002: behind the creditor line and a thousand collections
+listFaultOf (Value f line) = flawed 26 f line
+listFaultOf (BatchesNeeded n) = fault 27 n
+listFaultOf (OutputTooShort n) = fault 28 n
 
 abbrev pub listNumberOf : ListRefusal → ℕ
-listNumberOf ListTooLong = 21
-listNumberOf Ceiling = 22
-listNumberOf (NotAFrame line) = 23
-listNumberOf (NoCollection lines) = 24
-listNumberOf TooManyCollections = 25
-listNumberOf (Value f line) = 26
-listNumberOf (BatchesNeeded n) = 27
-listNumberOf (OutputTooShort n) = 28
+listNumberOf r = listFaultOf r .number
 
 abbrev pub listPlaceOf : ListRefusal → ℕ
-listPlaceOf ListTooLong = 0
-listPlaceOf Ceiling = 0
-listPlaceOf (NotAFrame line) = line
-listPlaceOf (NoCollection lines) = lines
-listPlaceOf TooManyCollections = 1_002
-listPlaceOf (Value f line) = line
-listPlaceOf (BatchesNeeded n) = n
-listPlaceOf (OutputTooShort n) = n
+listPlaceOf r = listFaultOf r .place
