@@ -23,8 +23,7 @@ use Rattle.profile.specs.declared.DeclaredCount.{DeclaredCount}
 use Rattle.profile.specs.declared.DeclaredSum.{DeclaredSum}
 use Rattle.profile.specs.declared.Batch.{Batch}
 use Rattle.profile.specs.declared.Totals.{Totals}
-use Rattle.profile.specs.declared.Refusal.{Refusal}
-use Rattle.profile.specs.declared.Refusal.the-variants.{TooManyBatches, TooManyTransactions, BatchCount, BatchSum, MessageCount, MessageSum, SlipsTooShort, BatchesTooShort}
+use Rattle.profile.specs.Refusals.{Fault}
 use Rattle.text.specs.declared.Judged.{Judged}
 use Rattle.text.specs.declared.Judged.the-variants.{Good, Bad}
 use Rattle.tree.specs.Parts as part
@@ -113,14 +112,14 @@ fault-after NoFault b p q m o =
     two (countDiffers (b .«declared_count») (b .count)) (sumDiffers (b .«declared_sum») (b .sum)) p q
     ∙ same (o .declared-count) (o .count) (o .count-at) (o .declared-sum) (o .sum) (o .sum-at)
   where
-    two : (x y : Bool) (p q : ℕ) → faultFound (pick x (WrongCount p) (pick y (WrongSum q) NoFault)) ≡ orElse (at BatchCount (pick x (some p) none)) (at BatchSum (pick y (some q) none))
+    two : (x y : Bool) (p q : ℕ) → faultFound (pick x (WrongCount p) (pick y (WrongSum q) NoFault)) ≡ orElse (at 6 (pick x (some p) none)) (at 7 (pick y (some q) none))
     two true y p q = refl
     two false true p q = refl
     two false false p q = refl
 
     same : {d : DeclaredCount} {n : NumberOfTransactions} {p : ℕ} {e : DeclaredSum} {s : ControlSum} {q : ℕ} → d ≡ countOf (m .declaredCount) → n .0 ≡ count m → p ≡ startOf (m .declaredCount)
         → e ≡ sumOf (m .declaredSum) → s .0 ≡ sum m → q ≡ startOf (m .declaredSum)
-        → orElse (at BatchCount (pick (countDiffers d n) (some p) none)) (at BatchSum (pick (sumDiffers e s) (some q) none)) ≡ batchFault m
+        → orElse (at 6 (pick (countDiffers d n) (some p) none)) (at 7 (pick (sumDiffers e s) (some q) none)) ≡ batchFault m
     same {n = n} {s = s} a b c d e f = rw (a, c, d, f) (rw (count-differs (m .declaredCount) n, sum-differs (m .declaredSum) s, b, e) refl)
 
 added-close : (y : Totals) (f : BatchFault) (b : Batch) (p q : ℕ) (m : M.Batch) (ms : List M.Batch) (z : Totals) (g : BatchFault) → Says b p q m
@@ -132,7 +131,7 @@ added-close y f b p q m ms z g o h = record {
   fault = h .fault ∙ ap (λ x. orElse x (first (map batchFault ms))) (fault-after f b p q m o) ∙ assoc (faultFound f) (batchFault m) (first (map batchFault ms));
 }
   where
-    assoc : (a b c : Option Refusal) → orElse (orElse a b) c ≡ orElse a (orElse b c)
+    assoc : (a b c : Option Fault) → orElse (orElse a b) c ≡ orElse a (orElse b c)
     assoc none b c = refl
     assoc (some a) b c = refl
 
@@ -197,14 +196,14 @@ module _ (ts : List Told) where
       λ i. record { batches = b i; transactions = record { 0 = n i }; cents = record { 0 = z i } }
 
   -- what the stages find, put together
-  abbrev together : Room → Option ℕ → Option ℕ → Option Refusal → Option Refusal → Option ℕ → Option ℕ → Totals → Verdict
+  abbrev together : Room → Option ℕ → Option ℕ → Option Fault → Option Fault → Option ℕ → Option ℕ → Totals → Verdict
   together r a b c f d e y =
       verdict (first (
-      at TooManyBatches a ∷ at TooManyTransactions b ∷ c ∷ f ∷ at MessageCount d ∷ at MessageSum e
-      ∷ at SlipsTooShort (unless (leb (12 * y .transactions .0) (r .slips)) (12 * y .transactions .0)) ∷ at BatchesTooShort (unless (leb (8 * y .batches) (r .rows)) (8 * y .batches)) ∷ []))
+      at 3 a ∷ at 4 b ∷ c ∷ f ∷ at 8 d ∷ at 9 e
+      ∷ at 10 (unless (leb (12 * y .transactions .0) (r .slips)) (12 * y .transactions .0)) ∷ at 11 (unless (leb (8 * y .batches) (r .rows)) (8 * y .batches)) ∷ []))
       y
 
-  together-same : (r : Room) {a a′ b b′ : Option ℕ} {c c′ f f′ : Option Refusal} {d d′ e e′ : Option ℕ} {y y′ : Totals}
+  together-same : (r : Room) {a a′ b b′ : Option ℕ} {c c′ f f′ : Option Fault} {d d′ e e′ : Option ℕ} {y y′ : Totals}
       → a ≡ a′ → b ≡ b′ → c ≡ c′ → f ≡ f′ → d ≡ d′ → e ≡ e′ → y ≡ y′ → together r a b c f d e y ≡ together r a′ b′ c′ f′ d′ e′ y′
   together-same r pa pb pc pf pd pe py = rw (pa, pb, pc, pf, pd, pe, py) refl
 

@@ -1,16 +1,15 @@
 -- WHAT THE STATE ANSWERS behind the last event, as the code says it. Executable; that it is the verdict is proofs/Right.
 --   overFound, badFound, faultFound, lastFound   what the stages find in the parts of the state and in the totals
 --   answer r st          what is answered where st is the state behind the last event and r the room of the tables
---   found, verdictSaid   what a stage and an answer of the code say
+--   found                what a stage of the code says
 use Prim.Native.Nat.{ℕ, _*_}
 use mathlib.Core.List.{List, [], _∷_}
 use mathlib.Core.Option.{Option, none, some}
 use lib.Dec.{leb}
 use Rattle.profile.specs.Totals.{countDiffers, sumDiffers}
 use Rattle.profile.specs.declared.Totals.{Totals}
-use Rattle.profile.specs.declared.Refusal.{Refusal}
-use Rattle.profile.specs.declared.Refusal.the-variants.{TooManyBatches, TooManyTransactions, Text, BatchCount, BatchSum, MessageCount, MessageSum, SlipsTooShort, BatchesTooShort}
-use Rattle.message.specs.Verdict.{Room, Verdict, Verdict.accepted, Verdict.refused, verdict, at, first, unless}
+use Rattle.profile.specs.Refusals.{Fault, fault, flawed, faultOf}
+use Rattle.message.specs.Verdict.{Room, Verdict, verdict, at, first, unless}
 use Rattle.state.specs.declared.FirstBad.{FirstBad}
 use Rattle.state.specs.declared.FirstBad.the-variants.{None as NoBad, At as BadAt}
 use Rattle.state.specs.declared.Over.{Over}
@@ -21,33 +20,31 @@ use Rattle.state.specs.declared.BatchFault.the-variants.{None as NoFault, Count
 use Rattle.state.specs.declared.State.{State}
 use Rattle.answer.specs.declared.Stage.{Stage}
 use Rattle.answer.specs.declared.Stage.the-variants.{Passed, Refused as Stopped}
-use Rattle.answer.specs.declared.Checked.{Checked}
-use Rattle.answer.specs.declared.Checked.the-variants.{Accepted, Refused}
 use Rattle.state.specs.State.{pick, tallied, faulted}
 
 -- ─── 1. What is found ───
 
-abbrev pub badFound : FirstBad → Option Refusal
+abbrev pub badFound : FirstBad → Option Fault
 badFound NoBad = none
-badFound (BadAt f p) = some (Text f p)
+badFound (BadAt f p) = some (flawed 5 f p)
 
 abbrev pub overFound : Over → Option ℕ
 overFound No = none
 overFound (OverAt p) = some p
 
-abbrev pub faultFound : BatchFault → Option Refusal
+abbrev pub faultFound : BatchFault → Option Fault
 faultFound NoFault = none
-faultFound (WrongCount p) = some (BatchCount p)
-faultFound (WrongSum p) = some (BatchSum p)
+faultFound (WrongCount p) = some (fault 6 p)
+faultFound (WrongSum p) = some (fault 7 p)
 
 -- what is found of the totals: the header's declarations, then the tables
-abbrev pub lastFound : Room → Header → Totals → List (Option Refusal)
+abbrev pub lastFound : Room → Header → Totals → List (Option Fault)
 lastFound r h y =
     let n = y .transactions .0 in
-    at MessageCount (pick (countDiffers (h .«declared_count») (y .transactions)) (some (h .«count_at»)) none)
-    ∷ at MessageSum (pick (sumDiffers (h .«declared_sum») (y .cents)) (some (h .«sum_at»)) none)
-    ∷ at SlipsTooShort (unless (leb (12 * n) (r .slips)) (12 * n))
-    ∷ at BatchesTooShort (unless (leb (8 * y .batches) (r .rows)) (8 * y .batches))
+    at 8 (pick (countDiffers (h .«declared_count») (y .transactions)) (some (h .«count_at»)) none)
+    ∷ at 9 (pick (sumDiffers (h .«declared_sum») (y .cents)) (some (h .«sum_at»)) none)
+    ∷ at 10 (unless (leb (12 * n) (r .slips)) (12 * n))
+    ∷ at 11 (unless (leb (8 * y .batches) (r .rows)) (8 * y .batches))
     ∷ []
 
 -- ─── 2. The answer ───
@@ -55,8 +52,8 @@ lastFound r h y =
 abbrev pub answerFrom : Room → State → BatchFault → Totals → Verdict
 answerFrom r st f y =
     verdict (first (
-    at TooManyBatches (overFound (st .batches .over))
-    ∷ at TooManyTransactions (overFound (st .transactions .over))
+    at 3 (overFound (st .batches .over))
+    ∷ at 4 (overFound (st .transactions .over))
     ∷ badFound (st .bad)
     ∷ faultFound f
     ∷ lastFound r (st .header) y))
@@ -65,12 +62,8 @@ answerFrom r st f y =
 abbrev pub answer : Room → State → Verdict
 answer r st = answerFrom r st (faulted st) (tallied st .closed)
 
--- ─── 3. What the code says: a stage, and the whole answer ───
+-- ─── 3. What a stage of the code says ───
 
-abbrev pub found : Stage → Option Refusal
+abbrev pub found : Stage → Option Fault
 found Passed = none
-found (Stopped x) = some x
-
-abbrev pub verdictSaid : Checked → Verdict
-verdictSaid (Accepted y) = accepted y
-verdictSaid (Refused x) = refused x
+found (Stopped x) = some (faultOf x)

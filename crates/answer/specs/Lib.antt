@@ -1,2 +1,3 @@
--- Answer   what the state answers behind the last event
+-- Said     what an answer of the code says (to be believed)        Answer   what the state answers behind the last event
+pub mod Said
 pub mod Answer

@@ -5,11 +5,11 @@ ghost use mathlib.Core.Option.{none, some};
 ghost use lib.Dec.{leb};
 ghost use Rattle.profile.specs.Limits.{mostBytes};
 ghost use Rattle.profile.specs.Totals.{countDiffers, sumDiffers};
-ghost use Rattle.profile.specs.declared.Refusal.the-variants.{TooManyBatches, TooManyTransactions, MessageCount, MessageSum, SlipsTooShort, BatchesTooShort};
 ghost use Rattle.message.specs.Verdict.{verdict, at, first, orElse, unless};
 ghost use Rattle.state.specs.State.{pick};
 ghost use Rattle.state.specs.Fill.{Within};
-ghost use Rattle.answer.specs.Answer.{badFound, overFound, faultFound, lastFound, answer, found, verdictSaid};
+ghost use Rattle.answer.specs.Answer.{badFound, overFound, faultFound, lastFound, answer, found};
+ghost use Rattle.answer.specs.Said.{said};
 use profile::ControlSum;
 use profile::NumberOfTransactions;
 use profile::Refusal;
@@ -45,7 +45,7 @@ fn or_else(a: Stage, b: Stage) -> Stage
 }
 
 fn batches_stage(over: Over) -> Stage
-    ensures { λ r. ⌜ found r ≡ at TooManyBatches (overFound over) ⌝ }
+    ensures { λ r. ⌜ found r ≡ at 3 (overFound over) ⌝ }
 {
     match over {
         Over::No => Stage::Passed,
@@ -54,7 +54,7 @@ fn batches_stage(over: Over) -> Stage
 }
 
 fn transactions_stage(over: Over) -> Stage
-    ensures { λ r. ⌜ found r ≡ at TooManyTransactions (overFound over) ⌝ }
+    ensures { λ r. ⌜ found r ≡ at 4 (overFound over) ⌝ }
 {
     match over {
         Over::No => Stage::Passed,
@@ -82,7 +82,7 @@ fn batch_stage(fault: BatchFault) -> Stage
 }
 
 fn count_stage(h: Header, n: NumberOfTransactions) -> Stage
-    ensures { λ r. ⌜ found r ≡ at MessageCount (pick (countDiffers (h .«declared_count») n) (some (h .«count_at»)) none) ⌝ }
+    ensures { λ r. ⌜ found r ≡ at 8 (pick (countDiffers (h .«declared_count») n) (some (h .«count_at»)) none) ⌝ }
 {
     let declared = h.declared_count;
     if profile::count_differs(declared, n) {
@@ -92,7 +92,7 @@ fn count_stage(h: Header, n: NumberOfTransactions) -> Stage
 }
 
 fn sum_stage(h: Header, c: ControlSum) -> Stage
-    ensures { λ r. ⌜ found r ≡ at MessageSum (pick (sumDiffers (h .«declared_sum») c) (some (h .«sum_at»)) none) ⌝ }
+    ensures { λ r. ⌜ found r ≡ at 9 (pick (sumDiffers (h .«declared_sum») c) (some (h .«sum_at»)) none) ⌝ }
 {
     let declared = h.declared_sum;
     if profile::sum_differs(declared, c) {
@@ -103,7 +103,7 @@ fn sum_stage(h: Header, c: ControlSum) -> Stage
 
 fn slips_stage(n: NumberOfTransactions, slips: usize) -> Stage
     requires { ⌜ n .0 ≤ mostBytes ⌝ }
-    ensures { λ r. ⌜ found r ≡ at SlipsTooShort (unless (leb (12 * n .0) slips) (12 * n .0)) ⌝ }
+    ensures { λ r. ⌜ found r ≡ at 10 (unless (leb (12 * n .0) slips) (12 * n .0)) ⌝ }
 {
     let needed = 12 * n.0 as usize;
     if needed <= slips {
@@ -114,7 +114,7 @@ fn slips_stage(n: NumberOfTransactions, slips: usize) -> Stage
 
 fn rows_stage(batches: u64, rows: usize) -> Stage
     requires { ⌜ batches ≤ mostBytes + 1 ⌝ }
-    ensures { λ r. ⌜ found r ≡ at BatchesTooShort (unless (leb (8 * batches) rows) (8 * batches)) ⌝ }
+    ensures { λ r. ⌜ found r ≡ at 11 (unless (leb (8 * batches) rows) (8 * batches)) ⌝ }
 {
     let needed = 8 * batches as usize;
     if needed <= rows {
@@ -142,7 +142,7 @@ fn last_stages(h: Header, y: Totals, slips: usize, rows: usize) -> Stage
 }
 
 fn conclude(all: Stage, y: Totals) -> Checked
-    ensures { λ r. ⌜ verdictSaid r ≡ verdict (found all) y ⌝ }
+    ensures { λ r. ⌜ said r ≡ verdict (found all) y ⌝ }
 {
     match all {
         Stage::Passed => Checked::Accepted(y),
@@ -153,7 +153,7 @@ fn conclude(all: Stage, y: Totals) -> Checked
 // What is answered behind the last event, where the tables hold `slips` and `rows` numbers.
 pub fn answer(state: State, slips: usize, rows: usize) -> Checked
     requires { ⌜ Within mostBytes state ⌝ }
-    ensures { λ r. ⌜ verdictSaid r ≡ answer (record { slips = slips; rows = rows }) state ⌝ }
+    ensures { λ r. ⌜ said r ≡ answer (record { slips = slips; rows = rows }) state ⌝ }
 {
     let header = state.header;
     let batches = state.batches;

@@ -17,9 +17,7 @@ use Rattle.profile.specs.declared.Totals.{Totals}
 use Rattle.tree.specs.Form.{Message}
 use Rattle.tree.specs.Pain008.{Document}
 use Rattle.message.specs.Message.{batchesOf}
-use Rattle.message.specs.Verdict.{totalsOf}
-use Rattle.answer.specs.declared.Checked.{Checked}
-use Rattle.answer.specs.declared.Checked.the-variants.{Accepted}
+use Rattle.message.specs.Verdict.{Verdict, Verdict.accepted, totalsOf}
 use Rattle.checked.specs.Check.{saidBy, Checks}
 use Rattle.checked.proofs.Demand2.{demand-2-accepts}
 use Rattle.daylist.specs.declared.JudgedList.the-variants.{Good}
@@ -73,14 +71,14 @@ module _ (s : Bytes) (c n : ℕ) (e : judgedList s c ≡ Good n) where
       (same-length (concat (batchesFor s c)) (listed s) t ∙ good-number s c n e)
       (same-total (λ x. x .cents) (concat (batchesFor s c)) (listed s) t)
 
-  module _ (slips rows : List ℕ) (r : Checked) (slips′ rows′ : List ℕ) where
-    pub list-checked : need (λ x. x .terms) sameTerms c (listed s) ≤ mostBatches → Checks (written s c) slips rows r slips′ rows′
-        → 12 * n ≤ length slips → 8 * need (λ x. x .terms) sameTerms c (listed s) ≤ length rows → r ≡ Accepted worth
+  module _ (slips rows : List ℕ) (v : Verdict) (slips′ rows′ : List ℕ) where
+    pub list-checked : need (λ x. x .terms) sameTerms c (listed s) ≤ mostBatches → Checks (written s c) slips rows v slips′ rows′
+        → 12 * n ≤ length slips → 8 * need (λ x. x .terms) sameTerms c (listed s) ≤ length rows → v ≡ accepted worth
     unfolding written
     list-checked few h a b =
         let m : Message Document = messageFor s c in
         let l : CarriesList m c (listed s) = list-carries few in
         let w : totalsOf (batchesOf (saidBy m)) ≡ worth = worth-carried few in
-        demand-2-accepts (written s c) slips rows r slips′ rows′ h m (l .accepted .belongs) (l .accepted .agree)
+        demand-2-accepts (written s c) slips rows v slips′ rows′ h m (l .accepted .belongs) (l .accepted .agree)
         (record { slips = rw (ap (λ (t : Totals). t .transactions .0) w) a; rows = rw (ap (λ (t : Totals). t .batches) w) b })
-        ∙ ap Accepted w
+        ∙ ap accepted w

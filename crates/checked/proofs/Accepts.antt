@@ -14,8 +14,7 @@ use lib.Dec.{T, eqb}
 use lib.ListN.{length}
 use Rattle.laws.specs.Lists.{total, All}
 use Rattle.profile.specs.Limits.{mostBatches, mostTransactions}
-use Rattle.profile.specs.declared.Refusal.{Refusal}
-use Rattle.profile.specs.declared.Refusal.the-variants.{TooManyBatches, TooManyTransactions, BatchCount, BatchSum, MessageCount, MessageSum, SlipsTooShort, BatchesTooShort}
+use Rattle.profile.specs.Refusals.{Fault}
 use Rattle.profile.specs.declared.Totals.{Totals}
 use Rattle.text.specs.declared.Judged.{Judged}
 use Rattle.text.specs.declared.Judged.the-variants.{Good, Bad}
@@ -29,33 +28,33 @@ use Rattle.checked.specs.Demand2.{Agrees, AllAgree, InProfile, Enough}
 
 -- ─── none found ───
 
-Nones : List (Option Refusal) → Type 0
+Nones : List (Option Fault) → Type 0
 Nones l = All (λ o. o ≡ none) l
 
-or-l : (a b : Option Refusal) → orElse a b ≡ none → a ≡ none
+or-l : (a b : Option Fault) → orElse a b ≡ none → a ≡ none
 or-l none b e = refl
 or-l (some x) b e = e
 
-or-r : (a b : Option Refusal) → orElse a b ≡ none → b ≡ none
+or-r : (a b : Option Fault) → orElse a b ≡ none → b ≡ none
 or-r none b e = e
 or-r (some x) b e = absurd (let z : _≡_ {A = ℕ} 0 1 = cc in omega arith)
 
-first-none : (l : List (Option Refusal)) → Nones l → first l ≡ none
+first-none : (l : List (Option Fault)) → Nones l → first l ≡ none
 unfolding Nones
 first-none [] h = refl
 first-none (o ∷ l) h = rw (h .0) (first-none l (h .1))
 
-none-first : (l : List (Option Refusal)) → first l ≡ none → Nones l
+none-first : (l : List (Option Fault)) → first l ≡ none → Nones l
 unfolding Nones
 none-first [] e = tt
 none-first (o ∷ l) e = (or-l o (first l) e, none-first l (or-r o (first l) e))
 
-at-none : (f : ℕ → Refusal) (o : Option ℕ) → at f o ≡ none → o ≡ none
-at-none f none e = refl
-at-none f (some p) e = absurd (let z : _≡_ {A = ℕ} 0 1 = cc in omega arith)
+at-none : (n : ℕ) (o : Option ℕ) → at n o ≡ none → o ≡ none
+at-none n none e = refl
+at-none n (some p) e = absurd (let z : _≡_ {A = ℕ} 0 1 = cc in omega arith)
 
-at-is-none : (f : ℕ → Refusal) (o : Option ℕ) → o ≡ none → at f o ≡ none
-at-is-none f o e = rw e refl
+at-is-none : (n : ℕ) (o : Option ℕ) → o ≡ none → at n o ≡ none
+at-is-none n o e = rw e refl
 
 -- ─── stage by stage ───
 
@@ -105,9 +104,9 @@ batches-agree : (bs : List Batch) → first (map batchFault bs) ≡ none → All
 batches-agree [] e = tt
 batches-agree (b ∷ bs) e =
     let f : batchFault b ≡ none = or-l (batchFault b) (first (map batchFault bs)) e in
-    let x : Option Refusal = at BatchCount (differs (b .declaredCount) (count b)) in
-    let y : Option Refusal = at BatchSum (differs (b .declaredSum) (sum b)) in (
-      (agrees (b .declaredCount) (count b) (at-none BatchCount _ (or-l x y f)), agrees (b .declaredSum) (sum b) (at-none BatchSum _ (or-r x y f))),
+    let x : Option Fault = at 6 (differs (b .declaredCount) (count b)) in
+    let y : Option Fault = at 7 (differs (b .declaredSum) (sum b)) in (
+      (agrees (b .declaredCount) (count b) (at-none 6 _ (or-l x y f)), agrees (b .declaredSum) (sum b) (at-none 7 _ (or-r x y f))),
       batches-agree bs (or-r (batchFault b) (first (map batchFault bs)) e),
     )
 
@@ -117,26 +116,26 @@ batches-agreed (b ∷ bs) h = rw (agreed (b .declaredCount) (count b) (h .0 .0),
 
 -- ─── the theorem ───
 
-verdict-accepted : (o : Option Refusal) (y z : Totals) → verdict o y ≡ accepted z → o ≡ none
+verdict-accepted : (o : Option Fault) (y z : Totals) → verdict o y ≡ accepted z → o ≡ none
 verdict-accepted none y z e = refl
 verdict-accepted (some f) y z e = absurd (let z : _≡_ {A = ℕ} 0 1 = cc in omega arith)
 
 pub accepts : (r : Room) (ts : List Told) → Enough r ts → InProfile ts → AllAgree ts → verdictOf r ts ≡ accepted (totalsOf (batchesOf ts))
 unfolding Nones
 accepts r ts e p a =
-    ap (λ (o : Option Refusal). verdict o (totalsOf (batchesOf ts))) (first-none (stages r ts) (
-      at-is-none TooManyBatches _ (within-after mostBatches (all part.batch ts) (p .batches)),
+    ap (λ (o : Option Fault). verdict o (totalsOf (batchesOf ts))) (first-none (stages r ts) (
+      at-is-none 3 _ (within-after mostBatches (all part.batch ts) (p .batches)),
       (
-        at-is-none TooManyTransactions _ (within-after mostTransactions (all part.transaction ts) (p .transactions)),
+        at-is-none 4 _ (within-after mostTransactions (all part.transaction ts) (p .transactions)),
         (
           broken-none ts (p .texts),
           (
             batches-agreed (batchesOf ts) (a .batches),
             (
-              at-is-none MessageCount _ (agreed (the part.messageCount ts) _ (a .messageCount)),
+              at-is-none 8 _ (agreed (the part.messageCount ts) _ (a .messageCount)),
               (
-                at-is-none MessageSum _ (agreed (the part.messageSum ts) _ (a .messageSum)),
-                (sym (room-yes SlipsTooShort _ (r .slips) (e .slips)), (sym (room-yes BatchesTooShort _ (r .rows) (e .rows)), tt)),
+                at-is-none 9 _ (agreed (the part.messageSum ts) _ (a .messageSum)),
+                (sym (room-yes 10 _ (r .slips) (e .slips)), (sym (room-yes 11 _ (r .rows) (e .rows)), tt)),
               ),
             ),
           ),
@@ -149,19 +148,19 @@ unfolding Nones
 accepted-only r ts y e =
     let h = none-first (stages r ts) (verdict-accepted (first (stages r ts)) (totalsOf (batchesOf ts)) y e) in (
       record {
-        batches = after-within mostBatches (all part.batch ts) (at-none TooManyBatches _ (h .0));
-        transactions = after-within mostTransactions (all part.transaction ts) (at-none TooManyTransactions _ (h .1 .0));
+        batches = after-within mostBatches (all part.batch ts) (at-none 3 _ (h .0));
+        transactions = after-within mostTransactions (all part.transaction ts) (at-none 4 _ (h .1 .0));
         texts = none-broken ts (h .1 .1 .0);
       },
       (
         record {
           batches = batches-agree (batchesOf ts) (h .1 .1 .1 .0);
-          messageCount = agrees (the part.messageCount ts) _ (at-none MessageCount _ (h .1 .1 .1 .1 .0));
-          messageSum = agrees (the part.messageSum ts) _ (at-none MessageSum _ (h .1 .1 .1 .1 .1 .0));
+          messageCount = agrees (the part.messageCount ts) _ (at-none 8 _ (h .1 .1 .1 .1 .0));
+          messageSum = agrees (the part.messageSum ts) _ (at-none 9 _ (h .1 .1 .1 .1 .1 .0));
         },
         record {
-          slips = leb-true _ _ (unless-none _ (12 * total count (batchesOf ts)) (at-none SlipsTooShort _ (h .1 .1 .1 .1 .1 .1 .0)));
-          rows = leb-true _ _ (unless-none _ (8 * length (batchesOf ts)) (at-none BatchesTooShort _ (h .1 .1 .1 .1 .1 .1 .1 .0)));
+          slips = leb-true _ _ (unless-none _ (12 * total count (batchesOf ts)) (at-none 10 _ (h .1 .1 .1 .1 .1 .1 .0)));
+          rows = leb-true _ _ (unless-none _ (8 * length (batchesOf ts)) (at-none 11 _ (h .1 .1 .1 .1 .1 .1 .1 .0)));
         },
       ),
     )

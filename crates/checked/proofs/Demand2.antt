@@ -12,38 +12,30 @@ use Rattle.profile.specs.declared.Totals.{Totals}
 use Rattle.tree.specs.Form.{Message}
 use Rattle.tree.specs.Pain008.{Document}
 use Rattle.message.specs.Message.{batchesOf}
-use Rattle.message.specs.Verdict.{accepted, totalsOf, verdictOf}
-use Rattle.answer.specs.declared.Checked.{Checked}
-use Rattle.answer.specs.declared.Checked.the-variants.{Accepted, Refused}
-use Rattle.answer.specs.Answer.{verdictSaid}
+use Rattle.message.specs.Verdict.{Verdict, Verdict.accepted, totalsOf, verdictOf}
 use Rattle.checked.specs.Check.{saidBy, roomOf, Long, Stuck, Judged, Checks}
 use Rattle.checked.specs.Demand2.{AllAgree, Enough, Belongs}
 use Rattle.checked.proofs.Accepts.{accepts, accepted-only}
 use Rattle.checked.proofs.Outcome.{same-said}
 
-accepted-said : (r : Checked) (t : Totals) → verdictSaid r ≡ accepted t → r ≡ Accepted t
-accepted-said (Accepted u) t e = cc
-accepted-said (Refused f) t e = absurd (let z : _≡_ {A = ℕ} 0 1 = cc in omega arith)
-
-module _ (s : Bytes) (slips rows : List ℕ) (r : Checked) (a b : List ℕ) where
-  pub demand-2-accepts : Checks s slips rows r a b → (m : Message Document) → Belongs s m → AllAgree (saidBy m) → Enough (roomOf slips rows) (saidBy m)
-      → r ≡ Accepted (totalsOf (batchesOf (saidBy m)))
+module _ (s : Bytes) (slips rows : List ℕ) (v : Verdict) (a b : List ℕ) where
+  pub demand-2-accepts : Checks s slips rows v a b → (m : Message Document) → Belongs s m → AllAgree (saidBy m) → Enough (roomOf slips rows) (saidBy m)
+      → v ≡ accepted (totalsOf (batchesOf (saidBy m)))
   demand-2-accepts c m p h e = go (c .case)
     where
-      go : Long s slips rows r a b ⊎ (Stuck s slips rows r a b ⊎ Judged s slips rows r a b) → r ≡ Accepted (totalsOf (batchesOf (saidBy m)))
+      go : Long s slips rows v a b ⊎ (Stuck s slips rows v a b ⊎ Judged s slips rows v a b) → v ≡ accepted (totalsOf (batchesOf (saidBy m)))
       go (inl q) = absurd (omega (arith, q .long, p .short))
       go (inr (inl q)) = absurd (q .not-of-form (m, p .bytes))
       go (inr (inr q)) =
-          accepted-said r (totalsOf (batchesOf (saidBy m)))
-          (q .answer ∙ ap (verdictOf (roomOf slips rows)) (same-said (q .read) m s (q .bytes) (p .bytes)) ∙ accepts (roomOf slips rows) (saidBy m) e (p .profile) h)
+          q .answer ∙ ap (verdictOf (roomOf slips rows)) (same-said (q .read) m s (q .bytes) (p .bytes)) ∙ accepts (roomOf slips rows) (saidBy m) e (p .profile) h
 
-  pub demand-2-only : Checks s slips rows r a b → (t : Totals) → r ≡ Accepted t → (m : Message Document) × (Belongs s m × (AllAgree (saidBy m) × Enough (roomOf slips rows) (saidBy m)))
+  pub demand-2-only : Checks s slips rows v a b → (t : Totals) → v ≡ accepted t → (m : Message Document) × (Belongs s m × (AllAgree (saidBy m) × Enough (roomOf slips rows) (saidBy m)))
   demand-2-only c t e = go (c .case)
     where
-      go : Long s slips rows r a b ⊎ (Stuck s slips rows r a b ⊎ Judged s slips rows r a b)
+      go : Long s slips rows v a b ⊎ (Stuck s slips rows v a b ⊎ Judged s slips rows v a b)
           → (m : Message Document) × (Belongs s m × (AllAgree (saidBy m) × Enough (roomOf slips rows) (saidBy m)))
       go (inl q) = absurd (let z : _≡_ {A = ℕ} 0 1 = cc in omega arith)
       go (inr (inl q)) = absurd (let z : _≡_ {A = ℕ} 0 1 = cc in omega arith)
       go (inr (inr q)) =
-          let h = accepted-only (roomOf slips rows) (saidBy (q .read)) t (sym (q .answer) ∙ ap verdictSaid e) in
+          let h = accepted-only (roomOf slips rows) (saidBy (q .read)) t (sym (q .answer) ∙ e) in
           (q .read, (record { short = q .short; bytes = q .bytes; profile = h .0 }, h .1))

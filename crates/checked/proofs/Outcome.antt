@@ -1,5 +1,6 @@
 -- ANY TWO OUTCOMES THAT THE PROMISE OF THE CHECK ALLOWS COINCIDE, and a refusal changes nothing.
---   one-outcome
+--   said-once         an answer of the code is known by its verdict
+--   one-outcome       two verdicts, and both tables, are the same
 --   refusal-keeps     a refusal leaves both tables as they were
 use Prim.Native.Nat.{ℕ}
 use native.Mathlib.Omega.{arith}
@@ -7,18 +8,18 @@ use mathlib.Core.List.{List}
 use mathlib.Core.Path.{_≡_, ap, sym, _∙_}
 use mathlib.Core.Logic.{_⊎_, inl, inr}
 use Rattle.laws.specs.Bytes.{Bytes}
-use Rattle.profile.specs.declared.Refusal.{Refusal}
-use Rattle.profile.specs.declared.Refusal.the-variants.{NotOfTheForm}
+use Rattle.profile.specs.Refusals.{Fault, fault}
+use Rattle.profile.proofs.Faults.{fault-once}
 use Rattle.tree.specs.declared.Event.{Event}
 use Rattle.tree.specs.Form.{Message, message, messageEvents}
 use Rattle.tree.specs.Pain008.{Document, declaration}
 use Rattle.tree.proofs.Pain008.{unambiguous, place-one}
 use Rattle.message.specs.declared.Told.{Told}
 use Rattle.message.specs.Message.{tell}
-use Rattle.message.specs.Verdict.{verdictOf, slipsOf, rowsOf}
+use Rattle.message.specs.Verdict.{Verdict, Verdict.refused, verdictOf, slipsOf, rowsOf}
 use Rattle.answer.specs.declared.Checked.{Checked}
 use Rattle.answer.specs.declared.Checked.the-variants.{Accepted, Refused}
-use Rattle.answer.specs.Answer.{verdictSaid}
+use Rattle.answer.specs.Said.{said}
 use Rattle.checked.specs.Check.{saidBy, roomOf, after, Long, Stuck, Judged, Checks}
 
 -- two messages of the same bytes say the same
@@ -26,37 +27,36 @@ pub same-said : (m n : Message Document) (s : Bytes) → message declaration m �
 same-said m n s p q =
     ap (λ (b : Bytes). tell b (messageEvents declaration m)) (p ∙ sym q) ∙ ap (λ (es : List Event). tell (message declaration n) es) (unambiguous m n (p ∙ sym q))
 
--- an answer is known by its verdict
-said-once : (r r₂ : Checked) → verdictSaid r ≡ verdictSaid r₂ → r ≡ r₂
+pub said-once : (r r₂ : Checked) → said r ≡ said r₂ → r ≡ r₂
 said-once (Accepted t) (Accepted u) e = cc
 said-once (Accepted t) (Refused f) e = absurd (let z : _≡_ {A = ℕ} 0 1 = cc in omega arith)
 said-once (Refused f) (Accepted u) e = absurd (let z : _≡_ {A = ℕ} 0 1 = cc in omega arith)
-said-once (Refused f) (Refused g) e = cc
+said-once (Refused f) (Refused g) e = ap Refused (fault-once f g (cc))
 
-module _ (s : Bytes) (slips rows : List ℕ) (r r₂ : Checked) (a b a₂ b₂ : List ℕ) where
-  -- the answers and both tables are the same
+module _ (s : Bytes) (slips rows : List ℕ) (v v₂ : Verdict) (a b a₂ b₂ : List ℕ) where
+  -- the verdicts and both tables are the same
   pub record Same : Type 0 where
-    pub answer : r ≡ r₂
+    pub answer : v ≡ v₂
     pub slips-same : a ≡ a₂
     pub rows-same : b ≡ b₂
 
-  judged-once : Judged s slips rows r a b → Judged s slips rows r₂ a₂ b₂ → Same
+  judged-once : Judged s slips rows v a b → Judged s slips rows v₂ a₂ b₂ → Same
   judged-once p q =
       let e : saidBy (p .read) ≡ saidBy (q .read) = same-said (p .read) (q .read) s (p .bytes) (q .bytes) in
-      let u : r ≡ r₂ = said-once r r₂ (p .answer ∙ ap (verdictOf (roomOf slips rows)) e ∙ sym (q .answer)) in
+      let u : v ≡ v₂ = p .answer ∙ ap (verdictOf (roomOf slips rows)) e ∙ sym (q .answer) in
       record {
         answer = u;
-        slips-same = p .slips-are ∙ ap (λ (c : Checked). after c slips (slipsOf (saidBy (p .read)))) u ∙ ap (λ (ts : List Told). after r₂ slips (slipsOf ts)) e ∙ sym (q .slips-are);
-        rows-same = p .rows-are ∙ ap (λ (c : Checked). after c rows (rowsOf (saidBy (p .read)))) u ∙ ap (λ (ts : List Told). after r₂ rows (rowsOf ts)) e ∙ sym (q .rows-are);
+        slips-same = p .slips-are ∙ ap (λ (w : Verdict). after w slips (slipsOf (saidBy (p .read)))) u ∙ ap (λ (ts : List Told). after v₂ slips (slipsOf ts)) e ∙ sym (q .slips-are);
+        rows-same = p .rows-are ∙ ap (λ (w : Verdict). after w rows (rowsOf (saidBy (p .read)))) u ∙ ap (λ (ts : List Told). after v₂ rows (rowsOf ts)) e ∙ sym (q .rows-are);
       }
 
-  cases : Long s slips rows r a b ⊎ (Stuck s slips rows r a b ⊎ Judged s slips rows r a b) → Long s slips rows r₂ a₂ b₂ ⊎ (Stuck s slips rows r₂ a₂ b₂ ⊎ Judged s slips rows r₂ a₂ b₂) → Same
+  cases : Long s slips rows v a b ⊎ (Stuck s slips rows v a b ⊎ Judged s slips rows v a b) → Long s slips rows v₂ a₂ b₂ ⊎ (Stuck s slips rows v₂ a₂ b₂ ⊎ Judged s slips rows v₂ a₂ b₂) → Same
   cases (inl p) (inl q) = record { answer = p .answer ∙ sym (q .answer); slips-same = p .slips-kept ∙ sym (q .slips-kept); rows-same = p .rows-kept ∙ sym (q .rows-kept) }
   cases (inl p) (inr (inl q)) = absurd (omega (arith, p .long, q .short))
   cases (inl p) (inr (inr q)) = absurd (omega (arith, p .long, q .short))
   cases (inr (inl p)) (inl q) = absurd (omega (arith, q .long, p .short))
   cases (inr (inl p)) (inr (inl q)) = record {
-    answer = p .answer ∙ ap (λ (n : ℕ). Refused (NotOfTheForm n)) (place-one s (p .place) (q .place) (p .is-place) (q .is-place)) ∙ sym (q .answer);
+    answer = p .answer ∙ ap (λ (n : ℕ). refused (fault 2 n)) (place-one s (p .place) (q .place) (p .is-place) (q .is-place)) ∙ sym (q .answer);
     slips-same = p .slips-kept ∙ sym (q .slips-kept);
     rows-same = p .rows-kept ∙ sym (q .rows-kept);
   }
@@ -65,14 +65,14 @@ module _ (s : Bytes) (slips rows : List ℕ) (r r₂ : Checked) (a b a₂ b₂ :
   cases (inr (inr p)) (inr (inl q)) = absurd (q .not-of-form (p .read, p .bytes))
   cases (inr (inr p)) (inr (inr q)) = judged-once p q
 
-  pub one-outcome : Checks s slips rows r a b → Checks s slips rows r₂ a₂ b₂ → Same
+  pub one-outcome : Checks s slips rows v a b → Checks s slips rows v₂ a₂ b₂ → Same
   one-outcome p q = cases (p .case) (q .case)
 
-module _ (s : Bytes) (slips rows : List ℕ) (f : Refusal) (a b : List ℕ) where
-  kept : Long s slips rows (Refused f) a b ⊎ (Stuck s slips rows (Refused f) a b ⊎ Judged s slips rows (Refused f) a b) → (a ≡ slips) × (b ≡ rows)
+module _ (s : Bytes) (slips rows : List ℕ) (f : Fault) (a b : List ℕ) where
+  kept : Long s slips rows (refused f) a b ⊎ (Stuck s slips rows (refused f) a b ⊎ Judged s slips rows (refused f) a b) → (a ≡ slips) × (b ≡ rows)
   kept (inl p) = (p .slips-kept, p .rows-kept)
   kept (inr (inl p)) = (p .slips-kept, p .rows-kept)
   kept (inr (inr p)) = (p .slips-are, p .rows-are)
 
-  pub refusal-keeps : Checks s slips rows (Refused f) a b → (a ≡ slips) × (b ≡ rows)
+  pub refusal-keeps : Checks s slips rows (refused f) a b → (a ≡ slips) × (b ≡ rows)
   refusal-keeps p = kept (p .case)

@@ -1,6 +1,7 @@
 -- WHAT THE CHECK PROMISES of its answer and of the two lent tables. To be believed; definitions only.
---   saidBy m                       what the message m says
---   Checks s slips rows r slips′ rows′   of the message s, with the tables at entry: the answer r, and the tables at exit
+--   saidBy m                             what the message m says
+--   after v table numbers                a table afterwards, for the verdict v
+--   Checks s slips rows v slips′ rows′   of the message s, with the tables at entry: the verdict v, and the tables at exit
 use Prim.Native.Nat.{ℕ, _<_, _≤_}
 use mathlib.Core.List.{List}
 use mathlib.Core.Path.{_≡_}
@@ -9,15 +10,12 @@ use lib.ListN.{length}
 use Rattle.laws.specs.Bytes.{Bytes}
 use Rattle.laws.specs.Put.{putAt}
 use Rattle.profile.specs.Limits.{mostBytes}
-use Rattle.profile.specs.declared.Refusal.the-variants.{TooLong, NotOfTheForm}
+use Rattle.profile.specs.Refusals.{fault}
 use Rattle.tree.specs.Form.{Message, message, messageEvents, OfForm, IsPlace}
 use Rattle.tree.specs.Pain008.{Document, declaration}
 use Rattle.message.specs.declared.Told.{Told}
 use Rattle.message.specs.Message.{tell}
-use Rattle.message.specs.Verdict.{Room, verdictOf, slipsOf, rowsOf}
-use Rattle.answer.specs.declared.Checked.{Checked}
-use Rattle.answer.specs.declared.Checked.the-variants.{Accepted, Refused}
-use Rattle.answer.specs.Answer.{verdictSaid}
+use Rattle.message.specs.Verdict.{Room, Verdict, Verdict.accepted, Verdict.refused, verdictOf, slipsOf, rowsOf}
 
 abbrev pub saidBy : Message Document → List Told
 saidBy m = tell (message declaration m) (messageEvents declaration m)
@@ -26,15 +24,15 @@ abbrev pub roomOf : List ℕ → List ℕ → Room
 roomOf slips rows = record { slips = length slips; rows = length rows }
 
 -- a table after the check: on acceptance the rows from 0 and the rest as it was; on refusal as at entry
-abbrev pub after : Checked → List ℕ → List ℕ → List ℕ
-after (Accepted t) table numbers = putAt table 0 numbers
-after (Refused f) table numbers = table
+abbrev pub after : Verdict → List ℕ → List ℕ → List ℕ
+after (accepted t) table numbers = putAt table 0 numbers
+after (refused f) table numbers = table
 
-module _ (s : Bytes) (slips rows : List ℕ) (r : Checked) (slips′ rows′ : List ℕ) where
+module _ (s : Bytes) (slips rows : List ℕ) (v : Verdict) (slips′ rows′ : List ℕ) where
   -- 1: longer than the profile allows
   pub record Long : Type 0 where
     pub long : mostBytes < length s
-    pub answer : r ≡ Refused TooLong
+    pub answer : v ≡ refused (fault 1 mostBytes)
     pub slips-kept : slips′ ≡ slips
     pub rows-kept : rows′ ≡ rows
 
@@ -44,7 +42,7 @@ module _ (s : Bytes) (slips rows : List ℕ) (r : Checked) (slips′ rows′ : L
     pub not-of-form : OfForm declaration Document s → ⊥
     pub place : ℕ
     pub is-place : IsPlace declaration Document s place
-    pub answer : r ≡ Refused (NotOfTheForm place)
+    pub answer : v ≡ refused (fault 2 place)
     pub slips-kept : slips′ ≡ slips
     pub rows-kept : rows′ ≡ rows
 
@@ -53,9 +51,9 @@ module _ (s : Bytes) (slips rows : List ℕ) (r : Checked) (slips′ rows′ : L
     pub short : length s ≤ mostBytes
     pub read : Message Document
     pub bytes : message declaration read ≡ s
-    pub answer : verdictSaid r ≡ verdictOf (roomOf slips rows) (saidBy read)
-    pub slips-are : slips′ ≡ after r slips (slipsOf (saidBy read))
-    pub rows-are : rows′ ≡ after r rows (rowsOf (saidBy read))
+    pub answer : v ≡ verdictOf (roomOf slips rows) (saidBy read)
+    pub slips-are : slips′ ≡ after v slips (slipsOf (saidBy read))
+    pub rows-are : rows′ ≡ after v rows (rowsOf (saidBy read))
 
   pub record Checks : Type 0 where
     pub case : Long ⊎ (Stuck ⊎ Judged)

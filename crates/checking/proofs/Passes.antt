@@ -19,6 +19,7 @@ use Rattle.laws.specs.Bytes.{Bytes}
 use Rattle.laws.specs.Put.{putAt}
 use Rattle.laws.proofs.Puts.{put-back}
 use Rattle.profile.specs.Limits.{mostBytes}
+use Rattle.profile.specs.Refusals.{Fault}
 use Rattle.profile.specs.declared.Refusal.{Refusal}
 use Rattle.profile.specs.declared.Refusal.the-variants.{TooLong, NotOfTheForm}
 use Rattle.profile.specs.declared.Totals.{Totals}
@@ -32,7 +33,8 @@ use Rattle.answer.specs.declared.Checked.{Checked}
 use Rattle.answer.specs.declared.Checked.the-variants.{Accepted, Refused}
 use Rattle.state.specs.declared.State.{State}
 use Rattle.state.specs.State.{fresh, step}
-use Rattle.answer.specs.Answer.{answer, verdictSaid}
+use Rattle.answer.specs.Said.{said}
+use Rattle.answer.specs.Answer.{answer}
 use Rattle.state.specs.Fill.{Carried, stepOf, carryStep, filledSlips, filledRows, Within}
 use Rattle.state.proofs.Bounds.{within-more}
 use Rattle.state.proofs.Fold.{fold, project}
@@ -96,7 +98,7 @@ module _ (s : Bytes) (slips rows a b : List ℕ) (f st : State) (o : Outcome) (g
   unfolding ReadRight Verdicts
   verdict-stuck room n e = let y = seen (StuckAt n) e in inr (inl (y .0, (y .1 .0, (n, (y .1 .1, refl)))))
 
-  pub verdict-judged : (room : Room) (x : State) (r : Checked) → x ≡ st → o ≡ WasRead → verdictSaid r ≡ answer room x → Verdicts s room r
+  pub verdict-judged : (room : Room) (x : State) (r : Checked) → x ≡ st → o ≡ WasRead → said r ≡ answer room x → Verdicts s room r
   unfolding Verdicts
   verdict-judged room x r k e q =
       let y = read-said s slips rows st a b (seen WasRead e) in
@@ -123,7 +125,7 @@ module _ (s : Bytes) (slips rows a b : List ℕ) (f st : State) (o : Outcome) (g
       (p ∙ ap filledSlips d ∙ slips-right slips rows (saidBy m) (n .slips), q ∙ ap filledRows d ∙ rows-right slips rows (saidBy m) (n .rows))
 
 module _ (s : Bytes) (slips rows a b : List ℕ) where
-  pub check-refused : (f : Refusal) → Verdicts s (roomOf slips rows) (Refused f) → a ≡ slips → b ≡ rows → Checks s slips rows (Refused f) a b
+  pub check-refused : (f : Refusal) → Verdicts s (roomOf slips rows) (Refused f) → a ≡ slips → b ≡ rows → Checks s slips rows (said (Refused f)) a b
   unfolding Verdicts
   check-refused f (inl (h, e)) p q = record { case = inl (record { long = h; answer = e; slips-kept = p; rows-kept = q }) }
   check-refused f (inr (inl (h, (x, (n, (i, e)))))) p q =
@@ -144,7 +146,7 @@ copied l xs ys n h e =
     let f : ys ≡ take n xs = rw z at e in
     rw f (put-back l (take n xs) 0 n (omega arith) (omega (arith, length-take-le n xs h)))
 
-verdict-totals : (o : Option Refusal) (y z : Totals) → verdict o y ≡ accepted z → z ≡ y
+verdict-totals : (o : Option Fault) (y z : Totals) → verdict o y ≡ accepted z → z ≡ y
 verdict-totals none y z e = cc
 verdict-totals (some f) y z e = absurd (let z : _≡_ {A = ℕ} 0 1 = cc in omega arith)
 
@@ -154,7 +156,7 @@ module _ (s : Bytes) (room : Room) (t : Totals) (v : Verdicts s room (Accepted t
     pub short : length s ≤ mostBytes
     pub read : Message Document
     pub bytes : message declaration read ≡ s
-    pub answer : verdictSaid (Accepted t) ≡ verdictOf room (saidBy read)
+    pub answer : said (Accepted t) ≡ verdictOf room (saidBy read)
     pub totals : t ≡ totalsOf (batchesOf (saidBy read))
     pub enough : Enough room (saidBy read)
 
@@ -174,7 +176,7 @@ module _ (s : Bytes) (room : Room) (t : Totals) (v : Verdicts s room (Accepted t
       (subst⁻¹ (λ (z : Totals). 12 * z .transactions .0 ≤ room .slips) (y .totals) (y .enough .slips), subst⁻¹ (λ (z : Totals). 8 * z .batches ≤ room .rows) (y .totals) (y .enough .rows))
 
 module _ (s : Bytes) (slips rows slips′ rows′ : List ℕ) (t : Totals) (v : Verdicts s (roomOf slips rows) (Accepted t)) where
-  pub check-accepted : Fills s slips rows slips′ rows′ → Checks s slips rows (Accepted t) slips′ rows′
+  pub check-accepted : Fills s slips rows slips′ rows′ → Checks s slips rows (said (Accepted t)) slips′ rows′
   unfolding Fills
   check-accepted f =
       let y = passed s (roomOf slips rows) t v in
@@ -182,7 +184,7 @@ module _ (s : Bytes) (slips rows slips′ rows′ : List ℕ) (t : Totals) (v : 
       record { case = inr (inr (record { short = y .short; read = y .read; bytes = y .bytes; answer = y .answer; slips-are = g .0; rows-are = g .1 })) }
 
   pub check-copied : (a₀ b₀ a b : List ℕ) → Fills s a₀ b₀ a b → 12 * t .transactions .0 ≤ length a₀ → 8 * t .batches ≤ length b₀
-      → slips′ ≡ putAt slips 0 (take (12 * t .transactions .0) a) → rows′ ≡ putAt rows 0 (take (8 * t .batches) b) → Checks s slips rows (Accepted t) slips′ rows′
+      → slips′ ≡ putAt slips 0 (take (12 * t .transactions .0) a) → rows′ ≡ putAt rows 0 (take (8 * t .batches) b) → Checks s slips rows (said (Accepted t)) slips′ rows′
   unfolding Fills
   check-copied a₀ b₀ a b f p q x y =
       let z = passed s (roomOf slips rows) t v in

@@ -4,6 +4,7 @@ ghost use Prim.Native.Nat.{_≤_};
 ghost use lib.ListN.{length, take};
 ghost use Rattle.laws.specs.Put.{putAt};
 ghost use Rattle.message.specs.Verdict.{Room};
+ghost use Rattle.answer.specs.Said.{said};
 ghost use Rattle.checked.specs.Check.{Checks};
 ghost use Rattle.checking.specs.Inner.{Verdicts, Fills};
 use answer::Checked;
@@ -37,7 +38,7 @@ fn check_beside(
     slips: &mut [u64],
     rows: &mut [u64],
 ) -> Checked
-    ensures { λ r. ⌜ Checks (now (message .entry)) (now (slips .entry)) (now (rows .entry)) r (now (slips .exit)) (now (rows .exit)) ⌝ }
+    ensures { λ r. ⌜ Checks (now (message .entry)) (now (slips .entry)) (now (rows .entry)) (said r) (now (slips .exit)) (now (rows .exit)) ⌝ }
 {
     let k = slips.len();
     let l = rows.len();
@@ -62,7 +63,7 @@ fn check_beside(
 
 // The check of a brief message, with room for 21 transactions in 8 batches.
 fn check_brief(message: &[u8], slips: &mut [u64], rows: &mut [u64]) -> Checked
-    ensures { λ r. ⌜ Checks (now (message .entry)) (now (slips .entry)) (now (rows .entry)) r (now (slips .exit)) (now (rows .exit)) ⌝ }
+    ensures { λ r. ⌜ Checks (now (message .entry)) (now (slips .entry)) (now (rows .entry)) (said r) (now (slips .exit)) (now (rows .exit)) ⌝ }
 {
     let mut a = [0u64; 252];
     let mut b = [0u64; 64];
@@ -71,7 +72,7 @@ fn check_brief(message: &[u8], slips: &mut [u64], rows: &mut [u64]) -> Checked
 
 // The check of a short message, with room for 200 transactions.
 fn check_short(message: &[u8], slips: &mut [u64], rows: &mut [u64]) -> Checked
-    ensures { λ r. ⌜ Checks (now (message .entry)) (now (slips .entry)) (now (rows .entry)) r (now (slips .exit)) (now (rows .exit)) ⌝ }
+    ensures { λ r. ⌜ Checks (now (message .entry)) (now (slips .entry)) (now (rows .entry)) (said r) (now (slips .exit)) (now (rows .exit)) ⌝ }
 {
     let mut a = [0u64; 2400];
     let mut b = [0u64; 512];
@@ -80,7 +81,7 @@ fn check_short(message: &[u8], slips: &mut [u64], rows: &mut [u64]) -> Checked
 
 // The check of a long message, with room for every slip and row that the profile allows.
 fn check_long(message: &[u8], slips: &mut [u64], rows: &mut [u64]) -> Checked
-    ensures { λ r. ⌜ Checks (now (message .entry)) (now (slips .entry)) (now (rows .entry)) r (now (slips .exit)) (now (rows .exit)) ⌝ }
+    ensures { λ r. ⌜ Checks (now (message .entry)) (now (slips .entry)) (now (rows .entry)) (said r) (now (slips .exit)) (now (rows .exit)) ⌝ }
 {
     let mut a = [0u64; 24000];
     let mut b = [0u64; 512];
@@ -89,7 +90,7 @@ fn check_long(message: &[u8], slips: &mut [u64], rows: &mut [u64]) -> Checked
 
 // The check: one pass over the message, and a second one only where a brief or short message has more transactions or batches than fit beside it.
 pub fn check(message: &[u8], slips: &mut [u64], rows: &mut [u64]) -> Checked
-    ensures { λ r. ⌜ Checks (now (message .entry)) (now (slips .entry)) (now (rows .entry)) r (now (slips .exit)) (now (rows .exit)) ⌝ }
+    ensures { λ r. ⌜ Checks (now (message .entry)) (now (slips .entry)) (now (rows .entry)) (said r) (now (slips .exit)) (now (rows .exit)) ⌝ }
 {
     if message.len() <= 8192 {
         return check_brief(message, slips, rows);

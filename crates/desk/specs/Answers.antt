@@ -1,29 +1,28 @@
 -- WHAT THE FUNCTIONS OF THE DESK ANSWER, in numbers. To be believed; definitions only.
---   checkedNumbers r         number 0 and the totals of an accepted message; the number and place of a refusal, and totals 0
+--   checkedNumbers v         number 0 and the totals of an accepted message; the number and place of a refusal, and totals 0
 --   writtenNumbers r         number 0 and the length of a written message; the number and place of a refusal
 --   DeskChecks s slips rows r slips′ rows′   the check's promise (checked/specs/Check), its answer told in numbers
 use Prim.Native.Nat.{ℕ}
 use mathlib.Core.List.{List}
 use mathlib.Core.Path.{_≡_}
 use Rattle.laws.specs.Bytes.{Bytes}
-use Rattle.profile.specs.Refusals.{numberOf, placeOf, listNumberOf, listPlaceOf}
-use Rattle.answer.specs.declared.Checked.{Checked}
-use Rattle.answer.specs.declared.Checked.the-variants.{Accepted, Refused}
+use Rattle.profile.specs.Refusals.{listNumberOf, listPlaceOf}
+use Rattle.message.specs.Verdict.{Verdict, Verdict.accepted, Verdict.refused}
 use Rattle.checked.specs.Check.{Checks}
 use Rattle.write.specs.declared.Written.{Written}
-use Rattle.write.specs.declared.Written.the-variants.{Length, Refused as Unwritten}
+use Rattle.write.specs.declared.Written.the-variants.{Length, Refused}
 use Rattle.desk.specs.declared.DeskChecked.{DeskChecked}
 use Rattle.desk.specs.declared.DeskWritten.{DeskWritten}
 
-abbrev pub checkedNumbers : Checked → DeskChecked
-checkedNumbers (Accepted t) = record { number = 0; place = 0; batches = t .batches; transactions = t .transactions .0; cents = t .cents .0 }
-checkedNumbers (Refused f) = record { number = numberOf f; place = placeOf f; batches = 0; transactions = 0; cents = 0 }
+abbrev pub checkedNumbers : Verdict → DeskChecked
+checkedNumbers (accepted t) = record { number = 0; place = 0; batches = t .batches; transactions = t .transactions .0; cents = t .cents .0 }
+checkedNumbers (refused f) = record { number = f .number; place = f .place; batches = 0; transactions = 0; cents = 0 }
 
 pub record DeskChecks (s : Bytes) (slips rows : List ℕ) (r : DeskChecked) (slips′ rows′ : List ℕ) : Type 0 where
-  pub checked : Checked
-  pub checks : Checks s slips rows checked slips′ rows′
-  pub numbers : r ≡ checkedNumbers checked
+  pub verdict : Verdict
+  pub checks : Checks s slips rows verdict slips′ rows′
+  pub numbers : r ≡ checkedNumbers verdict
 
 abbrev pub writtenNumbers : Written → DeskWritten
 writtenNumbers (Length n) = record { number = 0; place = n }
-writtenNumbers (Unwritten f) = record { number = listNumberOf f; place = listPlaceOf f }
+writtenNumbers (Refused f) = record { number = listNumberOf f; place = listPlaceOf f }

@@ -1,6 +1,7 @@
 // The desk for programs in other languages: the check and the writer with C's calling convention. include/desk.h states them in C.
 ghost use mathlib.Core.Path.{_≡_};
 ghost use lib.ListN.{length};
+ghost use Rattle.answer.specs.Said.{said};
 ghost use Rattle.write.specs.Write.{answerFor, outputFor};
 ghost use Rattle.desk.specs.Answers.{checkedNumbers, DeskChecks, writtenNumbers};
 use answer::Checked;
@@ -20,7 +21,7 @@ pub struct DeskChecked {
 
 // The answer in numbers.
 fn checked_numbers(checked: Checked) -> DeskChecked
-    ensures { λ r. ⌜ r ≡ checkedNumbers checked ⌝ }
+    ensures { λ r. ⌜ r ≡ checkedNumbers (said checked) ⌝ }
 {
     match checked {
         Checked::Accepted(totals) => DeskChecked {

@@ -1,7 +1,7 @@
 -- THE STAGES 3 TO 11 of the check, AND THE ROWS of its tables, of what a message says. To be believed; definitions only.
 --   Room             the lengths of the two tables
---   stages r ts      the stages in order, each its first fault or none, as a refusal of profile
---   verdictOf r ts   the refusal of the first stage that finds a fault, else the message's batches, transactions and cents
+--   stages r ts      the stages in order, each its first fault or none: document 01's number, and the place
+--   verdictOf r ts   the fault of the first stage that finds one, else the message's batches, transactions and cents
 --   slipsOf, rowsOf  the numbers that the two tables get
 use Prim.Native.Nat.{ℕ, zero, suc, _+_, _*_}
 use mathlib.Core.Bool.{Bool, true, false}
@@ -11,8 +11,7 @@ use lib.Dec.{eqb, leb}
 use lib.ListN.{length}
 use Rattle.laws.specs.Lists.{total, gather}
 use Rattle.profile.specs.Limits.{mostBatches, mostTransactions}
-use Rattle.profile.specs.declared.Refusal.{Refusal}
-use Rattle.profile.specs.declared.Refusal.the-variants.{TooManyBatches, TooManyTransactions, Text, BatchCount, BatchSum, MessageCount, MessageSum, SlipsTooShort, BatchesTooShort}
+use Rattle.profile.specs.Refusals.{Fault, fault, flawed}
 use Rattle.profile.specs.declared.Totals.{Totals}
 use Rattle.text.specs.declared.Judged.{Judged}
 use Rattle.text.specs.declared.Judged.the-variants.{Good, Bad}
@@ -31,10 +30,10 @@ abbrev pub first : {A : Type 0} → List (Option A) → Option A
 first [] = none
 first (a ∷ l) = orElse a (first l)
 
--- a place that was found, as a refusal
-abbrev pub at : (ℕ → Refusal) → Option ℕ → Option Refusal
-at f none = none
-at f (some p) = some (f p)
+-- the number n, at the place that was found
+abbrev pub at : ℕ → Option ℕ → Option Fault
+at n none = none
+at n (some p) = some (fault n p)
 
 -- nothing where a test holds
 abbrev pub unless : Bool → ℕ → Option ℕ
@@ -50,12 +49,12 @@ placeAfter zero (t ∷ ts) = some (t .place)
 placeAfter (suc k) (t ∷ ts) = placeAfter k ts
 
 -- a text that breaks its rule
-abbrev pub broken : Judged → ℕ → Option Refusal
+abbrev pub broken : Judged → ℕ → Option Fault
 broken (Good n) p = none
-broken (Bad f) p = some (Text f p)
+broken (Bad f) p = some (flawed 5 f p)
 
 -- the first such text, at its start
-abbrev pub firstBroken : List Told → Option Refusal
+abbrev pub firstBroken : List Told → Option Fault
 firstBroken [] = none
 firstBroken (t ∷ ts) = orElse (broken (t .judged) (t .start)) (firstBroken ts)
 
@@ -65,32 +64,32 @@ differs none n = none
 differs (some t) n = unless (eqb (worth t) n) (t .start)
 
 -- a batch's count, then its sum
-abbrev pub batchFault : Batch → Option Refusal
-batchFault b = orElse (at BatchCount (differs (b .declaredCount) (count b))) (at BatchSum (differs (b .declaredSum) (sum b)))
+abbrev pub batchFault : Batch → Option Fault
+batchFault b = orElse (at 6 (differs (b .declaredCount) (count b))) (at 7 (differs (b .declaredSum) (sum b)))
 
 pub record Room : Type 0 where
   pub slips : ℕ
   pub rows : ℕ
 
-abbrev pub stages : Room → List Told → List (Option Refusal)
+abbrev pub stages : Room → List Told → List (Option Fault)
 stages r ts =
     let bs = batchesOf ts in
-    at TooManyBatches (placeAfter mostBatches (all part.batch ts))
-    ∷ at TooManyTransactions (placeAfter mostTransactions (all part.transaction ts))
-    ∷ firstBroken ts
-    ∷ first (map batchFault bs)
-    ∷ at MessageCount (differs (the part.messageCount ts) (total count bs))
-    ∷ at MessageSum (differs (the part.messageSum ts) (total sum bs))
-    ∷ at SlipsTooShort (unless (leb (12 * total count bs) (r .slips)) (12 * total count bs))
-    ∷ at BatchesTooShort (unless (leb (8 * length bs) (r .rows)) (8 * length bs))
+    at 3 (placeAfter mostBatches (all part.batch ts))
+    ∷ at 4 (placeAfter mostTransactions (all part.transaction ts))
+    ∷ firstBroken ts  -- 5
+    ∷ first (map batchFault bs)  -- 6, 7
+    ∷ at 8 (differs (the part.messageCount ts) (total count bs))
+    ∷ at 9 (differs (the part.messageSum ts) (total sum bs))
+    ∷ at 10 (unless (leb (12 * total count bs) (r .slips)) (12 * total count bs))
+    ∷ at 11 (unless (leb (8 * length bs) (r .rows)) (8 * length bs))
     ∷ []
 
--- what the stages answer: a refusal, or the totals
+-- what the stages answer: the totals, or a fault
 pub data Verdict : Type 0 where
   accepted : Totals → Verdict
-  refused : Refusal → Verdict
+  refused : Fault → Verdict
 
-abbrev pub verdict : Option Refusal → Totals → Verdict
+abbrev pub verdict : Option Fault → Totals → Verdict
 verdict none t = accepted t
 verdict (some f) t = refused f
 
