@@ -1,5 +1,6 @@
 -- WITH TABLES LONG ENOUGH, THE STAGES ACCEPT exactly where what the message says is in the profile and every declaration agrees.
---   first-none          the first of a list is none exactly where all are
+--   first-none, none-first       the first of a list is none exactly where all are
+--   profile-passes, in-profile   what a message says is in the profile exactly where the stages 3, 4 and 5 find nothing
 --   accepts             in the profile, and all agree: accepted, with the exact totals
 --   accepted-only       accepted: in the profile, and all agree
 use Prim.Native.Nat.{ℕ, zero, suc, _*_, _≤_, zero-le, suc-le-suc}
@@ -114,6 +115,28 @@ batches-agreed : (bs : List Batch) → All BatchAgrees bs → first (map batchFa
 batches-agreed [] h = refl
 batches-agreed (b ∷ bs) h = rw (agreed (b .declaredCount) (count b) (h .0 .0), agreed (b .declaredSum) (sum b) (h .0 .1)) (batches-agreed bs (h .1))
 
+-- ─── the profile ───
+
+-- 3, 4 and 5 find nothing
+pub record Passes (ts : List Told) : Type 0 where
+  pub batches : at 3 (placeAfter mostBatches (all part.batch ts)) ≡ none
+  pub transactions : at 4 (placeAfter mostTransactions (all part.transaction ts)) ≡ none
+  pub texts : firstBroken ts ≡ none
+
+pub profile-passes : (ts : List Told) → InProfile ts → Passes ts
+profile-passes ts p = record {
+  batches = at-is-none 3 _ (within-after mostBatches (all part.batch ts) (p .batches));
+  transactions = at-is-none 4 _ (within-after mostTransactions (all part.transaction ts) (p .transactions));
+  texts = broken-none ts (p .texts);
+}
+
+pub in-profile : (ts : List Told) → Passes ts → InProfile ts
+in-profile ts p = record {
+  batches = after-within mostBatches (all part.batch ts) (at-none 3 _ (p .batches));
+  transactions = after-within mostTransactions (all part.transaction ts) (at-none 4 _ (p .transactions));
+  texts = none-broken ts (p .texts);
+}
+
 -- ─── the theorem ───
 
 verdict-accepted : (o : Option Fault) (y z : Totals) → verdict o y ≡ accepted z → o ≡ none
@@ -123,12 +146,13 @@ verdict-accepted (some f) y z e = absurd (let z : _≡_ {A = ℕ} 0 1 = cc in om
 pub accepts : (r : Room) (ts : List Told) → Enough r ts → InProfile ts → AllAgree ts → verdictOf r ts ≡ accepted (totalsOf (batchesOf ts))
 unfolding Nones
 accepts r ts e p a =
+    let q = profile-passes ts p in
     ap (λ (o : Option Fault). verdict o (totalsOf (batchesOf ts))) (first-none (stages r ts) (
-      at-is-none 3 _ (within-after mostBatches (all part.batch ts) (p .batches)),
+      q .batches,
       (
-        at-is-none 4 _ (within-after mostTransactions (all part.transaction ts) (p .transactions)),
+        q .transactions,
         (
-          broken-none ts (p .texts),
+          q .texts,
           (
             batches-agreed (batchesOf ts) (a .batches),
             (
@@ -147,11 +171,7 @@ pub accepted-only : (r : Room) (ts : List Told) (y : Totals) → verdictOf r ts 
 unfolding Nones
 accepted-only r ts y e =
     let h = none-first (stages r ts) (verdict-accepted (first (stages r ts)) (totalsOf (batchesOf ts)) y e) in (
-      record {
-        batches = after-within mostBatches (all part.batch ts) (at-none 3 _ (h .0));
-        transactions = after-within mostTransactions (all part.transaction ts) (at-none 4 _ (h .1 .0));
-        texts = none-broken ts (h .1 .1 .0);
-      },
+      in-profile ts (record { batches = h .0; transactions = h .1 .0; texts = h .1 .1 .0 }),
       (
         record {
           batches = batches-agree (batchesOf ts) (h .1 .1 .1 .0);

@@ -25,7 +25,7 @@ module _ (s : Bytes) (slips rows : List ℕ) (v : Verdict) (a b : List ℕ) wher
     where
       go : Long s slips rows v a b ⊎ (Stuck s slips rows v a b ⊎ Judged s slips rows v a b) → v ≡ accepted (totalsOf (batchesOf (saidBy m)))
       go (inl q) = absurd (omega (arith, q .long, p .short))
-      go (inr (inl q)) = absurd (q .not-of-form (m, p .bytes))
+      go (inr (inl q)) = absurd (q .not-of-form .0 (m, p .bytes))
       go (inr (inr q)) =
           q .answer ∙ ap (verdictOf (roomOf slips rows)) (same-said (q .read) m s (q .bytes) (p .bytes)) ∙ accepts (roomOf slips rows) (saidBy m) e (p .profile) h
 

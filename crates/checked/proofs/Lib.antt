@@ -1,6 +1,8 @@
 -- Accepts    with tables long enough, the stages accept exactly what demand 2 says
 -- Outcome    any two outcomes that the promise allows coincide
+-- Numbers    the number of a refusal; a message belongs to the profile where it meets no refusal before 6
 -- Demand2    DEMAND 2, of every outcome that the promise allows
 pub mod Accepts
 pub mod Outcome
+pub mod Numbers
 pub mod Demand2

@@ -56,13 +56,13 @@ module _ (s : Bytes) (slips rows : List ℕ) (v v₂ : Verdict) (a b a₂ b₂ :
   cases (inl p) (inr (inr q)) = absurd (omega (arith, p .long, q .short))
   cases (inr (inl p)) (inl q) = absurd (omega (arith, q .long, p .short))
   cases (inr (inl p)) (inr (inl q)) = record {
-    answer = p .answer ∙ ap (λ (n : ℕ). refused (fault 2 n)) (place-one s (p .place) (q .place) (p .is-place) (q .is-place)) ∙ sym (q .answer);
+    answer = p .answer ∙ ap (λ (n : ℕ). refused (fault 2 n)) (place-one s (p .place) (q .place) (p .not-of-form .1) (q .not-of-form .1)) ∙ sym (q .answer);
     slips-same = p .slips-kept ∙ sym (q .slips-kept);
     rows-same = p .rows-kept ∙ sym (q .rows-kept);
   }
-  cases (inr (inl p)) (inr (inr q)) = absurd (p .not-of-form (q .read, q .bytes))
+  cases (inr (inl p)) (inr (inr q)) = absurd (p .not-of-form .0 (q .read, q .bytes))
   cases (inr (inr p)) (inl q) = absurd (omega (arith, q .long, p .short))
-  cases (inr (inr p)) (inr (inl q)) = absurd (q .not-of-form (p .read, p .bytes))
+  cases (inr (inr p)) (inr (inl q)) = absurd (q .not-of-form .0 (p .read, p .bytes))
   cases (inr (inr p)) (inr (inr q)) = judged-once p q
 
   pub one-outcome : Checks s slips rows v a b → Checks s slips rows v₂ a₂ b₂ → Same

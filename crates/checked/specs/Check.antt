@@ -11,7 +11,7 @@ use Rattle.laws.specs.Bytes.{Bytes}
 use Rattle.laws.specs.Put.{putAt}
 use Rattle.profile.specs.Limits.{mostBytes}
 use Rattle.profile.specs.Refusals.{fault}
-use Rattle.tree.specs.Form.{Message, message, messageEvents, OfForm, IsPlace}
+use Rattle.tree.specs.Form.{Message, message, messageEvents, NotOfForm}
 use Rattle.tree.specs.Pain008.{Document, declaration}
 use Rattle.message.specs.declared.Told.{Told}
 use Rattle.message.specs.Message.{tell}
@@ -39,9 +39,8 @@ module _ (s : Bytes) (slips rows : List ℕ) (v : Verdict) (slips′ rows′ : L
   -- 2: not of the form
   pub record Stuck : Type 0 where
     pub short : length s ≤ mostBytes
-    pub not-of-form : OfForm declaration Document s → ⊥
     pub place : ℕ
-    pub is-place : IsPlace declaration Document s place
+    pub not-of-form : NotOfForm declaration Document s place
     pub answer : v ≡ refused (fault 2 place)
     pub slips-kept : slips′ ≡ slips
     pub rows-kept : rows′ ≡ rows

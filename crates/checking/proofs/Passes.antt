@@ -96,7 +96,7 @@ module _ (s : Bytes) (slips rows a b : List ℕ) (f st : State) (o : Outcome) (g
 
   pub verdict-stuck : (room : Room) (n : ℕ) → o ≡ StuckAt n → Verdicts s room (Refused (NotOfTheForm n))
   unfolding ReadRight Verdicts
-  verdict-stuck room n e = let y = seen (StuckAt n) e in inr (inl (y .0, (y .1 .0, (n, (y .1 .1, refl)))))
+  verdict-stuck room n e = let y = seen (StuckAt n) e in inr (inl (y .0, (n, (y .1, refl))))
 
   pub verdict-judged : (room : Room) (x : State) (r : Checked) → x ≡ st → o ≡ WasRead → said r ≡ answer room x → Verdicts s room r
   unfolding Verdicts
@@ -128,8 +128,8 @@ module _ (s : Bytes) (slips rows a b : List ℕ) where
   pub check-refused : (f : Refusal) → Verdicts s (roomOf slips rows) (Refused f) → a ≡ slips → b ≡ rows → Checks s slips rows (said (Refused f)) a b
   unfolding Verdicts
   check-refused f (inl (h, e)) p q = record { case = inl (record { long = h; answer = e; slips-kept = p; rows-kept = q }) }
-  check-refused f (inr (inl (h, (x, (n, (i, e)))))) p q =
-      record { case = inr (inl (record { short = h; not-of-form = x; place = n; is-place = i; answer = e; slips-kept = p; rows-kept = q })) }
+  check-refused f (inr (inl (h, (n, (x, e))))) p q =
+      record { case = inr (inl (record { short = h; place = n; not-of-form = x; answer = e; slips-kept = p; rows-kept = q })) }
   check-refused f (inr (inr (h, (m, (e, v))))) p q = record { case = inr (inr (record { short = h; read = m; bytes = e; answer = v; slips-are = p; rows-are = q })) }
 
 -- ─── tables that were filled beside the lent ones ───
@@ -166,7 +166,7 @@ module _ (s : Bytes) (room : Room) (t : Totals) (v : Verdicts s room (Accepted t
     where
       go : Verdicts s room (Accepted t) → Passed
       go (inl (h, e)) = absurd (let z : _≡_ {A = ℕ} 0 1 = cc in omega arith)
-      go (inr (inl (h, (x, (n, (i, e)))))) = absurd (let z : _≡_ {A = ℕ} 0 1 = cc in omega arith)
+      go (inr (inl (h, (n, (x, e))))) = absurd (let z : _≡_ {A = ℕ} 0 1 = cc in omega arith)
       go (inr (inr (h, (m, (e, v))))) =
           record { short = h; read = m; bytes = e; answer = v; totals = verdict-totals (first (stages room (saidBy m))) (totalsOf (batchesOf (saidBy m))) t (sym v); enough = accepted-only room (saidBy m) t (sym v) .1 .1 }
 

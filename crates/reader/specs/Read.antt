@@ -10,7 +10,7 @@ use lib.ListN.{length, drop}
 use Rattle.laws.specs.Bytes.{Bytes}
 use Rattle.profile.specs.Limits.{mostBytes}
 use Rattle.tree.specs.declared.Event.{Event}
-use Rattle.tree.specs.Form.{Message, message, messageEvents, OfForm, IsPlace}
+use Rattle.tree.specs.Form.{Message, message, messageEvents, NotOfForm}
 use Rattle.tree.specs.Pain008.{Document, declaration}
 use Rattle.tree.specs.Reader.{Res, done, stuck, shift, farther, lead}
 use Rattle.state.specs.declared.State.{State}
@@ -25,7 +25,7 @@ carried kept slips rows = record { state = stateOf kept; slips = slips; rows = r
 
 unfoldable pub ReadRight : Bytes → Carried → Outcome → Carried → Type 0
 ReadRight s a TooLong b = (mostBytes < length s) × (b ≡ a)
-ReadRight s a (Stuck n) b = (length s ≤ mostBytes) × ((OfForm declaration Document s → ⊥) × IsPlace declaration Document s n)
+ReadRight s a (Stuck n) b = (length s ≤ mostBytes) × NotOfForm declaration Document s n
 ReadRight s a Read b = (length s ≤ mostBytes) × ((m : Message Document) × (message declaration m ≡ s) × (fold Carried (stepOf s) s a (messageEvents declaration m) ≡ b))
 
 abbrev pub Bounded : ℕ → Outcome → State → Type 0

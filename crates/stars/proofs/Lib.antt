@@ -1,2 +1,2 @@
--- Hold   all ★ cases hold; a whole message is of the form
+-- Hold   all ★ cases hold
 pub mod Hold

@@ -1,37 +1,42 @@
--- THE CASES MARKED ★ in document 01, as one list of tests of the definitions, and one claim. That it holds is proofs/Hold.
+-- THE CASES MARKED ★ in document 01, as one list and one claim about the definitions. That it holds is proofs/Hold.
+--   Case       a message that is refused with 2 at a place; a text that obeys a rule, or breaks it; a test
+--   Holds c    what the case c claims
+--   cases      ★1 TO ★12, each under its number
+--   Stars      THE CLAIM: each case holds
 use Prim.Native.Nat.{ℕ}
 use Prim.Native.String.{String}
 use mathlib.Core.Bool.{Bool, true, false, not, _&&_}
 use mathlib.Core.List.{List, [], _∷_, map}
 use lib.Dec.{T, eqb}
 use Rattle.laws.specs.Bytes.{Bytes, ascii, same}
+use Rattle.laws.specs.Lists.{All}
 use Rattle.profile.specs.Refusals.{listNumberOf}
-use Rattle.profile.specs.declared.ListRefusal.{ListRefusal}
 use Rattle.profile.specs.declared.ListRefusal.the-variants.{Value}
 use Rattle.text.specs.declared.Judged.{Judged}
 use Rattle.text.specs.declared.Judged.the-variants.{Good, Bad}
-use Rattle.text.specs.Rules as rules
-use Rattle.text.specs.Rules.{good, leaves}
-use Rattle.tree.specs.Form.{IsPlace}
+use Rattle.text.specs.Rules.{good, leaves, iban, amount, sum, date, identifier, bic}
+use Rattle.tree.specs.Form.{NotOfForm}
 use Rattle.tree.specs.Pain008.{Document, declaration}
-use Rattle.daylist.specs.Lead as lead
+use Rattle.daylist.specs.Lead.{cents}
 use Rattle.bundle.specs.Bundle.{bundle, number}
 
-abbrev pub every : List Bool → Bool
-every [] = true
-every (b ∷ bs) = b && every bs
+pub data Case : Type 0 where
+  two : String → ℕ → Case
+  obeys : (Bytes → Judged) → String → Case
+  breaks : (Bytes → Judged) → String → Case
+  test : Bool → Case
 
--- a text obeys a rule, or breaks it
-abbrev pub obeys : (Bytes → Judged) → String → Bool
-obeys f s = good (f (ascii s))
+abbrev pub Holds : Case → Type 0
+Holds (two s n) = NotOfForm declaration Document (ascii s) n
+Holds (obeys r s) = T (good (r (ascii s)))
+Holds (breaks r s) = T (not (good (r (ascii s))))
+Holds (test b) = T b
 
-abbrev pub breaks : (Bytes → Judged) → String → Bool
-breaks f s = not (good (f (ascii s)))
+-- ─── what the tests of ★11 and ★12 compare ───
 
--- the number of the refusal that a judged value of a list gives; 0 where it is good
-abbrev pub refusal : Judged → ℕ
-refusal (Good n) = 0
-refusal (Bad f) = listNumberOf (Value f 2)
+-- the items, from 1, of each batch
+abbrev pub itemsOf : ℕ → List ℕ → List (List ℕ)
+itemsOf ceiling terms = map (map (λ p. p .0)) (bundle (λ p. p .1) eqb ceiling (number 1 terms))
 
 abbrev pub alike : List (List ℕ) → List (List ℕ) → Bool
 alike [] [] = true
@@ -39,27 +44,40 @@ alike [] (y ∷ ys) = false
 alike (x ∷ xs) [] = false
 alike (x ∷ xs) (y ∷ ys) = same x y && alike xs ys
 
--- the items, from 1, of each batch
-abbrev pub itemsOf : ℕ → List ℕ → List (List ℕ)
-itemsOf ceiling terms = map (map (λ p. p .0)) (bundle (λ p. p .1) eqb ceiling (number 1 terms))
+-- the number with which a list is refused for a value; 0 where the value is good
+abbrev pub refusal : Judged → ℕ
+refusal (Good n) = 0
+refusal (Bad f) = listNumberOf (Value f 2)
 
--- ★4 to ★12
-abbrev pub cases : List Bool
+-- ─── the list ───
+
+abbrev pub cases : List (ℕ × Case)
 cases =
-    obeys rules.iban "GB29NWBK60161331926819" ∷ obeys rules.iban "BE30001216371411"  -- ★4
-    ∷ breaks rules.iban "FR7610041010050500013M02606" ∷ eqb (leaves (ascii "FR7610041010050500013M02606")) 6  -- ★5
-    ∷ obeys rules.amount "999999999.99" ∷ breaks rules.amount "1000000000" ∷ breaks rules.amount "0.00" ∷ breaks rules.amount "1." ∷ breaks rules.amount ".5"  -- ★6
-    ∷ obeys rules.sum "0" ∷ breaks rules.sum "3250.150"  -- ★7
-    ∷ obeys rules.date "2000-02-29" ∷ breaks rules.date "1900-02-29"  -- ★8
-    ∷ obeys rules.identifier "A/B" ∷ breaks rules.identifier "A//B" ∷ breaks rules.identifier "/A"  -- ★9
-    ∷ obeys rules.bic "BANKGB2L"  -- ★10
-    ∷ alike (itemsOf 2 (1 ∷ 1 ∷ 2 ∷ 1 ∷ 2 ∷ 1 ∷ 1 ∷ [])) ((1 ∷ 2 ∷ []) ∷ (4 ∷ 6 ∷ []) ∷ (7 ∷ []) ∷ (3 ∷ 5 ∷ []) ∷ [])  -- ★11
-    ∷ good (lead.cents (0x17 ∷ 0x48 ∷ 0x76 ∷ 0xe7 ∷ 0xff ∷ [])) ∷ eqb (refusal (lead.cents (0x17 ∷ 0x48 ∷ 0x76 ∷ 0xe8 ∷ 0x00 ∷ []))) 26  -- ★12
+    (1, two "" 0)
+    ∷ (2, two "<" 1)
+    ∷ (3, two "<?xml version=\"1.0\" encoding=\"UTF-8\" ?>" 36)
+    ∷ (4, obeys iban "GB29NWBK60161331926819")
+    ∷ (4, obeys iban "BE30001216371411")
+    ∷ (5, breaks iban "FR7610041010050500013M02606")
+    ∷ (5, test (eqb (leaves (ascii "FR7610041010050500013M02606")) 6))
+    ∷ (6, obeys amount "999999999.99")
+    ∷ (6, breaks amount "1000000000")
+    ∷ (6, breaks amount "0.00")
+    ∷ (6, breaks amount "1.")
+    ∷ (6, breaks amount ".5")
+    ∷ (7, obeys sum "0")
+    ∷ (7, breaks sum "3250.150")
+    ∷ (8, obeys date "2000-02-29")
+    ∷ (8, breaks date "1900-02-29")
+    ∷ (9, obeys identifier "A/B")
+    ∷ (9, breaks identifier "A//B")
+    ∷ (9, breaks identifier "/A")
+    ∷ (10, obeys bic "BANKGB2L")
+    ∷ (11, test (alike (itemsOf 2 (1 ∷ 1 ∷ 2 ∷ 1 ∷ 2 ∷ 1 ∷ 1 ∷ [])) ((1 ∷ 2 ∷ []) ∷ (4 ∷ 6 ∷ []) ∷ (7 ∷ []) ∷ (3 ∷ 5 ∷ []) ∷ [])))
+    ∷ (12, test (good (cents (0x17 ∷ 0x48 ∷ 0x76 ∷ 0xe7 ∷ 0xff ∷ []))))
+    ∷ (12, test (eqb (refusal (cents (0x17 ∷ 0x48 ∷ 0x76 ∷ 0xe8 ∷ 0x00 ∷ []))) 26))
     ∷ []
 
 -- THE CLAIM
-pub record Stars : Type 0 where
-  pub star-1 : IsPlace declaration Document [] 0
-  pub star-2 : IsPlace declaration Document (ascii "<") 1
-  pub star-3 : IsPlace declaration Document (ascii "<?xml version=\"1.0\" encoding=\"UTF-8\" ?>") 36
-  pub stars-4-to-12 : T (every cases)
+abbrev pub Stars : Type 0
+Stars = All (λ c. Holds (c .1)) cases

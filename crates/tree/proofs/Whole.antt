@@ -12,7 +12,7 @@ use lib.ListN.{length, drop, take as takeN, length-append, length-drop, take-app
 use lib.Seq.{length-take-le}
 use Rattle.laws.specs.Bytes.{Bytes, all, span}
 use Rattle.laws.proofs.Tests.{max-cases, and-l, and-r}
-use Rattle.tree.specs.Form.{Elem, Tree, Run, inRun, white, opening, print, says, Message, message, messageEvents, declOf, OfForm, IsPlace, Tree.tree}
+use Rattle.tree.specs.Form.{Elem, Tree, Run, inRun, white, opening, print, says, Message, message, messageEvents, declOf, OfForm, IsPlace, NotOfForm, Tree.tree}
 use Rattle.tree.specs.declared.Kind.{Kind}
 use Rattle.tree.specs.declared.Kind.the-variants.{Holds}
 use Rattle.tree.specs.declared.Event.{Event}
@@ -249,7 +249,7 @@ read-unique decl root s ok m =
 -- what is promised of an answer
 abbrev pub Promise : (decl : Bytes) (root : Elem) → Bytes → Res → Type 0
 Promise decl root s (done es) = (m : Message root) × (message decl m ≡ s) × (messageEvents decl m ≡ es)
-Promise decl root s (stuck n) = ¬ (OfForm decl root s) × IsPlace decl root s n
+Promise decl root s (stuck n) = NotOfForm decl root s n
 
 promise : (decl : Bytes) (root : Elem) (s : Bytes) (o : Res) → Sound (Message root) (Printed root decl) s o
     → ((m : Message root) → Unique s o (message decl m) (messageEvents decl m)) → Promise decl root s o

@@ -2,7 +2,7 @@
 --   How, Elem, Items             1. the description (Kind: white space, or a text of a rule)
 --   Tree, Kids, print            2. the trees of a description, and their bytes
 --   Event, says                  3. what a tree says
---   Message, OfForm, IsPlace     4. messages, and the place of refusal 2
+--   Message, OfForm, IsPlace, NotOfForm   4. messages, and the place of refusal 2
 use Prim.Native.Nat.{ℕ, suc, _+_, _≤_}
 use mathlib.Core.Bool.{Bool, true, false, not, _||_}
 use mathlib.Core.List.{List, [], _∷_, _++_}
@@ -163,3 +163,7 @@ common (a ∷ s) (b ∷ w) = elim (eqb a b) [ true ↦ suc (common s w) | false 
 -- n is the length of the longest beginning that s shares with some message of the form
 abbrev pub IsPlace : Bytes → Elem → Bytes → ℕ → Type 0
 IsPlace decl root s n = ((m : Message root) × (common s (message decl m) ≡ n)) × ((m : Message root) → common s (message decl m) ≤ n)
+
+-- s is refused with 2 at n: it is not of the form, and n is its place
+abbrev pub NotOfForm : Bytes → Elem → Bytes → ℕ → Type 0
+NotOfForm decl root s n = (OfForm decl root s → ⊥) × IsPlace decl root s n

@@ -1,7 +1,9 @@
 -- THE PROFILE TREE of document 01, as a value of the description, laid out like its list. To be believed; definitions only.
 --   box nm is, txt nm r        an element that holds elements; an element with a text of the rule r
 --   p plays e                  the element e, which plays the part p
---   a then b, a maybe b, a or b, only a, repeated a     children in order; `?`; `|`; the last child; one or more
+--   a then .., a optional ..   children in order: a stands once; a may be missing (`?`)
+--   only a, repeated a         the last child: a stands once; a stands one or more times
+--   a or b                     `|`
 --   Document, declaration      the root and the declaration
 use Prim.Native.Nat.{ℕ}
 use Prim.Native.String.{String}
@@ -56,52 +58,52 @@ account p = only (box "Id" (only (p plays txt "IBAN" Iban)))
 abbrev pub GrpHdr : Elem
 GrpHdr =
     box "GrpHdr" (
-    txt "MsgId" Identifier
-    then txt "CreDtTm" Time
-    then messageCount plays txt "NbOfTxs" Count
-    then messageSum plays txt "CtrlSum" Sum
-    then only (box "InitgPty" (only (txt "Nm" Name))))
+    txt "MsgId" Identifier then
+    txt "CreDtTm" Time then
+    messageCount plays txt "NbOfTxs" Count then
+    messageSum plays txt "CtrlSum" Sum then
+    only (box "InitgPty" (only (txt "Nm" Name))))
 
 abbrev pub PmtTpInf : Elem
 PmtTpInf =
     box "PmtTpInf" (
-    box "SvcLvl" (only (txt "Cd" Sepa))
-    then box "LclInstrm" (only (scheme plays txt "Cd" Scheme))
-    then only (sequence plays txt "SeqTp" Sequence))
+    box "SvcLvl" (only (txt "Cd" Sepa)) then
+    box "LclInstrm" (only (scheme plays txt "Cd" Scheme)) then
+    only (sequence plays txt "SeqTp" Sequence))
 
 abbrev pub CdtrSchmeId : Elem
 CdtrSchmeId =
     box "CdtrSchmeId" (only (box "Id" (only (box "PrvtId" (only (box "Othr" (
-    txt "Id" CreditorIdentifier
-    then only (box "SchmeNm" (only (txt "Prtry" Sepa))))))))))
+    txt "Id" CreditorIdentifier then
+    only (box "SchmeNm" (only (txt "Prtry" Sepa))))))))))
 
 abbrev pub DrctDbtTxInf : Elem
 DrctDbtTxInf =
     transaction plays box "DrctDbtTxInf" (
-    box "PmtId" (txt "InstrId" Identifier optional only (endToEnd plays txt "EndToEndId" Identifier))
-    then elem amount (ascii "InstdAmt") (ascii " Ccy=\"EUR\"") (Text Amount) none
-    then box "DrctDbtTx" (only (box "MndtRltdInf" (mandate plays txt "MndtId" Identifier then only (signatureDate plays txt "DtOfSgntr" Date))))
-    then box "DbtrAgt" (bank debtorBank)
-    then box "Dbtr" (only (debtorName plays txt "Nm" Name))
-    then box "DbtrAcct" (account debtorAccount)
-    then box "RmtInf" (only (remittance plays txt "Ustrd" Remittance)) optional none)
+    box "PmtId" (txt "InstrId" Identifier optional only (endToEnd plays txt "EndToEndId" Identifier)) then
+    elem amount (ascii "InstdAmt") (ascii " Ccy=\"EUR\"") (Text Amount) none then
+    box "DrctDbtTx" (only (box "MndtRltdInf" (mandate plays txt "MndtId" Identifier then only (signatureDate plays txt "DtOfSgntr" Date)))) then
+    box "DbtrAgt" (bank debtorBank) then
+    box "Dbtr" (only (debtorName plays txt "Nm" Name)) then
+    box "DbtrAcct" (account debtorAccount) then
+    box "RmtInf" (only (remittance plays txt "Ustrd" Remittance)) optional none)
 
 abbrev pub PmtInf : Elem
 PmtInf =
     batch plays box "PmtInf" (
-    txt "PmtInfId" Identifier
-    then txt "PmtMtd" Method
-    then txt "BtchBookg" Booking
-    optional batchCount plays txt "NbOfTxs" Count
-    optional batchSum plays txt "CtrlSum" Sum
-    optional PmtTpInf
-    then collectionDate plays txt "ReqdColltnDt" Date
-    then box "Cdtr" (only (txt "Nm" Name))
-    then box "CdtrAcct" (account 0)
-    then box "CdtrAgt" (bank 0)
-    then txt "ChrgBr" Charges
-    then CdtrSchmeId
-    then repeated DrctDbtTxInf)
+    txt "PmtInfId" Identifier then
+    txt "PmtMtd" Method then
+    txt "BtchBookg" Booking optional
+    batchCount plays txt "NbOfTxs" Count optional
+    batchSum plays txt "CtrlSum" Sum optional
+    PmtTpInf then
+    collectionDate plays txt "ReqdColltnDt" Date then
+    box "Cdtr" (only (txt "Nm" Name)) then
+    box "CdtrAcct" (account 0) then
+    box "CdtrAgt" (bank 0) then
+    txt "ChrgBr" Charges then
+    CdtrSchmeId then
+    repeated DrctDbtTxInf)
 
 abbrev pub Document : Elem
 Document =

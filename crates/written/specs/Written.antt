@@ -50,13 +50,13 @@ remittanceTree (c ∷ s) = node (only (leaf (c ∷ s))) given end
 abbrev pub transactionTree : Collection → Tree DrctDbtTxInf
 transactionTree x =
     node (
-    node (absent (only (leaf (x .endToEnd))))
-    before leaf (euros (x .cents))
-    before node (only (node (leaf (x .mandate) before only (leaf (x .signatureDate)))))
-    before node (bankTree (x .bank))
-    before node (only (leaf (x .debtorName)))
-    before node (accountTree (x .debtorAccount))
-    before remittanceTree (x .remittance))
+    node (absent (only (leaf (x .endToEnd)))) before
+    leaf (euros (x .cents)) before
+    node (only (node (leaf (x .mandate) before only (leaf (x .signatureDate))))) before
+    node (bankTree (x .bank)) before
+    node (only (leaf (x .debtorName))) before
+    node (accountTree (x .debtorAccount)) before
+    remittanceTree (x .remittance))
 
 -- ─── a batch ───
 
@@ -74,22 +74,22 @@ termsOf (x ∷ xs) = x .terms
 abbrev pub batchTree : Creditor → ℕ → List Collection → Tree PmtInf
 batchTree cr n xs =
     node (
-    leaf (batchId n)
-    before leaf (ascii "DD")
-    before leaf (ascii "true")
-    given leaf (decimal (length xs))
-    given leaf (euros (total (λ x. x .cents) xs))
-    given node (
-    node (only (leaf (ascii "SEPA")))
-    before node (only (leaf (schemeWord (termsOf xs .scheme))))
-    before only (leaf (sequenceWord (termsOf xs .sequence))))
-    before leaf (termsOf xs .date)
-    before node (only (leaf (cr .name)))
-    before node (accountTree (cr .account))
-    before node (bankTree (cr .bank))
-    before leaf (ascii "SLEV")
-    before node (only (node (only (node (only (node (leaf (cr .identifier) before only (node (only (leaf (ascii "SEPA")))))))))))
-    before several (transactionTree noCollection) (map transactionTree xs))
+    leaf (batchId n) before
+    leaf (ascii "DD") before
+    leaf (ascii "true") given
+    leaf (decimal (length xs)) given
+    leaf (euros (total (λ x. x .cents) xs)) given
+    node (
+    node (only (leaf (ascii "SEPA"))) before
+    node (only (leaf (schemeWord (termsOf xs .scheme)))) before
+    only (leaf (sequenceWord (termsOf xs .sequence)))) before
+    leaf (termsOf xs .date) before
+    node (only (leaf (cr .name))) before
+    node (accountTree (cr .account)) before
+    node (bankTree (cr .bank)) before
+    leaf (ascii "SLEV") before
+    node (only (node (only (node (only (node (leaf (cr .identifier) before only (node (only (leaf (ascii "SEPA"))))))))))) before
+    several (transactionTree noCollection) (map transactionTree xs))
 
 -- numbered from n on
 abbrev pub batchTrees : Creditor → ℕ → List (List Collection) → List (Tree PmtInf)
@@ -101,11 +101,11 @@ batchTrees cr n (b ∷ bs) = batchTree cr n b ∷ batchTrees cr (suc n) bs
 abbrev pub headerTree : Creditor → List Collection → Tree GrpHdr
 headerTree cr xs =
     node (
-    leaf (cr .messageId)
-    before leaf (cr .creationTime)
-    before leaf (decimal (length xs))
-    before leaf (euros (total (λ x. x .cents) xs))
-    before only (node (only (leaf (cr .initiatingName)))))
+    leaf (cr .messageId) before
+    leaf (cr .creationTime) before
+    leaf (decimal (length xs)) before
+    leaf (euros (total (λ x. x .cents) xs)) before
+    only (node (only (leaf (cr .initiatingName)))))
 
 -- declared, without white space
 abbrev pub messageOf : Creditor → List (List Collection) → Message Document
