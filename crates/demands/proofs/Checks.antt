@@ -1,0 +1,157 @@
+-- DEMANDS 1 AND 2, OF A CHECK whose answers are told in numbers.
+--   rows-tell            the rows of a table tell what each batch declares, and that it declares nothing
+--   Numbered             an operation's outcomes are those of the check, told in numbers
+--   demand-1, demand-2   the demands, of every such operation
+use Prim.Native.Nat.{ℕ, _+_, _*_, _≤_}
+use native.Mathlib.Omega.{arith}
+use native.Mathlib.Decide.{decLe}
+use mathlib.Core.List.{List, [], _∷_, _++_, append-assoc}
+use mathlib.Core.Logic.{_⊎_, inl, inr, _↔_}
+use mathlib.Core.Option.{Option, none, some}
+use mathlib.Core.Path.{_≡_, refl, ap, sym, subst, _∙_}
+use lib.ListN.{length, take, drop, getD}
+use Rattle.laws.specs.Bytes.{Bytes}
+use Rattle.laws.specs.Put.{putAt}
+use Rattle.profile.specs.Limits.{mostBytes}
+use Rattle.profile.specs.Refusals.{Fault}
+use Rattle.profile.specs.declared.Totals.{Totals}
+use Rattle.tree.specs.Form.{Message, message}
+use Rattle.tree.specs.Pain008.{Document, declaration}
+use Rattle.message.specs.declared.Told.{Told}
+use Rattle.message.specs.Message.{Batch, batchesOf, count, sum, worthOf}
+use Rattle.message.specs.Verdict.{Verdict, Verdict.accepted, Verdict.refused, declared, row, rowsFrom, rowsOf, totalsOf}
+use Rattle.checked.specs.Check.{saidBy, roomOf, after, Long, Stuck, Judged, Checks}
+use Rattle.checked.specs.Demand2.{InProfile, AllAgree, Belongs, Enough}
+use Rattle.checked.proofs.Outcome.{same-said, one-outcome, refusal-keeps}
+use Rattle.checked.proofs.Numbers.{refusal-number, belongs-exactly}
+use Rattle.checked.proofs.Demand2.{demand-2-accepts, demand-2-only}
+use Rattle.carries.specs.Carried.{Accepted}
+use Rattle.desk.specs.declared.DeskChecked.{DeskChecked}
+use Rattle.desk.specs.Answers.{checkedNumbers}
+use Rattle.demands.specs.Demands.{Tables, Tells, RowTells, RowsTell, Demand2}
+
+-- ─── what is absent ───
+
+-- two declarations in a row, between numbers
+tells : (a b : Option Told) (m n c e : ℕ) (l : List ℕ) →
+    let r : List ℕ = (m ∷ n ∷ c ∷ (declared a ++ (declared b ++ (e ∷ [])))) ++ l in
+    (Tells a (getD (take 8 r) 3 0) (getD (take 8 r) 4 0) × Tells b (getD (take 8 r) 5 0) (getD (take 8 r) 6 0)) × (drop 8 r ≡ l)
+tells none none m n c e l = (((refl, refl), (refl, refl)), refl)
+tells none (some t) m n c e l = (((refl, refl), (refl, refl)), refl)
+tells (some t) none m n c e l = (((refl, refl), (refl, refl)), refl)
+tells (some t) (some u) m n c e l = (((refl, refl), (refl, refl)), refl)
+
+pub rows-tell : (m : ℕ) (bs : List Batch) (l : List ℕ) → RowsTell bs (rowsFrom m bs ++ l)
+rows-tell m [] l = tt
+rows-tell m (b ∷ bs) l =
+    let r : List ℕ = rowsFrom (m + count b) bs ++ l in
+    let h = tells (b .declaredCount) (b .declaredSum) m (count b) (sum b) (4 * worthOf (b .scheme) + worthOf (b .sequence)) r in
+    subst (λ (x : List ℕ). RowsTell (b ∷ bs) x) (sym (append-assoc (row m b) (rowsFrom (m + count b) bs) l))
+    (h .0, subst (λ (x : List ℕ). RowsTell bs x) (sym (h .1)) (rows-tell (m + count b) bs l))
+
+-- ─── an outcome of the check ───
+
+-- the number of a verdict is 0 exactly where it accepts
+zero-accepts : (v : Verdict) → ((f : Fault) → v ≡ refused f → 1 ≤ f .number) → checkedNumbers v .number ≡ 0 → (t : Totals) × (v ≡ accepted t)
+zero-accepts (accepted t) h e = (t, refl)
+zero-accepts (refused f) h e = absurd (omega (arith, h f refl))
+
+module _ (s : Bytes) (slips rows : List ℕ) (v : Verdict) (a b : List ℕ) (h : Checks s slips rows v a b) where
+  abbrev number : ℕ
+  number = checkedNumbers v .number
+
+  accepts : number ≡ 0 → (t : Totals) × (v ≡ accepted t)
+  accepts e = zero-accepts v (λ f g. refusal-number s slips rows v a b h f g .0) e
+
+  -- an accepted message is read, and its rows are put
+  read : (t : Totals) → v ≡ accepted t → Judged s slips rows v a b
+  read t e = go (h .case)
+    where
+      go : Long s slips rows v a b ⊎ (Stuck s slips rows v a b ⊎ Judged s slips rows v a b) → Judged s slips rows v a b
+      go (inl q) = absurd (let z : _≡_ {A = ℕ} 0 1 = cc in omega arith)
+      go (inr (inl q)) = absurd (let z : _≡_ {A = ℕ} 0 1 = cc in omega arith)
+      go (inr (inr q)) = q
+
+  pub numbers : (number ≡ 0) ⊎ ((1 ≤ number) × (number ≤ 11))
+  numbers = go v refl
+    where
+      go : (w : Verdict) → v ≡ w → (checkedNumbers w .number ≡ 0) ⊎ ((1 ≤ checkedNumbers w .number) × (checkedNumbers w .number ≤ 11))
+      go (accepted t) e = inl refl
+      go (refused f) e = inr (refusal-number s slips rows v a b h f e)
+
+  pub keeps : (number ≡ 0 → ⊥) → (a ≡ slips) × (b ≡ rows)
+  keeps n = go v refl
+    where
+      go : (w : Verdict) → v ≡ w → (a ≡ slips) × (b ≡ rows)
+      go (accepted t) e = absurd (n (ap (λ (w : Verdict). checkedNumbers w .number) e))
+      go (refused f) e = refusal-keeps s slips rows f a b (subst (λ (w : Verdict). Checks s slips rows w a b) e h)
+
+  pub exactly : (number ≡ 0) ↔ ((m : Message Document) × ((message declaration m ≡ s) × (Accepted m × Enough (roomOf slips rows) (saidBy m))))
+  exactly = (to, from)
+    where
+      to : number ≡ 0 → (m : Message Document) × ((message declaration m ≡ s) × (Accepted m × Enough (roomOf slips rows) (saidBy m)))
+      to e =
+          let t = accepts e in
+          let d = demand-2-only s slips rows v a b h (t .0) (t .1) in
+          let p : Belongs s (d .0) = d .1 .0 in
+          (d .0, (p .bytes, (record { belongs = subst (λ (u : Bytes). Belongs u (d .0)) (sym (p .bytes)) p; agree = d .1 .1 .0 }, d .1 .1 .1)))
+
+      from : (m : Message Document) × ((message declaration m ≡ s) × (Accepted m × Enough (roomOf slips rows) (saidBy m))) → number ≡ 0
+      from (m, (e, (p, q))) =
+          ap (λ (w : Verdict). checkedNumbers w .number) (demand-2-accepts s slips rows v a b h m (subst (λ (u : Bytes). Belongs u m) e (p .belongs)) (p .agree) q)
+
+  pub of-message : (m : Message Document) → message declaration m ≡ s → Enough (roomOf slips rows) (saidBy m) → (number ≡ 0) ↔ Accepted m
+  of-message m e q = (to, λ p. exactly .1 (m, (e, (p, q))))
+    where
+      to : number ≡ 0 → Accepted m
+      to z =
+          let d = exactly .0 z in
+          let n : Message Document = d .0 in
+          let same : saidBy n ≡ saidBy m = same-said n m s (d .1 .0) e in
+          let p : Accepted n = d .1 .1 .0 in
+          record {
+            belongs = record {
+              short = subst (λ (u : Bytes). length u ≤ mostBytes) (d .1 .0 ∙ sym e) (p .belongs .short);
+              bytes = refl;
+              profile = subst (λ (ts : List Told). InProfile ts) same (p .belongs .profile);
+            };
+            agree = subst (λ (ts : List Told). AllAgree ts) same (p .agree);
+          }
+
+  pub belongs : ((m : Message Document) × Belongs s m) ↔ (1 ≤ number → number ≤ 5 → ⊥)
+  belongs = (λ p. late (belongs-exactly s slips rows v a b h .0 p), λ n. belongs-exactly s slips rows v a b h .1 (early n))
+    where
+      late : ((f : Fault) → v ≡ refused f → 6 ≤ f .number) → 1 ≤ number → number ≤ 5 → ⊥
+      late g x y = go v refl
+        where
+          go : (w : Verdict) → v ≡ w → ⊥
+          go (accepted t) e = omega (arith, ap (λ (w : Verdict). checkedNumbers w .number) e)
+          go (refused f) e = omega (arith, g f e, ap (λ (w : Verdict). checkedNumbers w .number) e)
+
+      early : (1 ≤ number → number ≤ 5 → ⊥) → (f : Fault) → v ≡ refused f → 6 ≤ f .number
+      early n f e =
+          let i : number ≡ f .number = ap (λ (w : Verdict). checkedNumbers w .number) e in
+          go (decLe 6 (f .number)) i
+        where
+          go : Dec (6 ≤ f .number) → number ≡ f .number → 6 ≤ f .number
+          go (yes l) i = l
+          go (no l) i = absurd (n (omega (arith, refusal-number s slips rows v a b h f e .0)) (omega arith))
+
+  pub answers : number ≡ 0 → (m : Message Document) → message declaration m ≡ s → checkedNumbers v ≡ checkedNumbers (accepted (totalsOf (batchesOf (saidBy m))))
+  answers z m e =
+      let d = exactly .0 z in
+      let n : Message Document = d .0 in
+      let p : Accepted n = d .1 .1 .0 in
+      ap checkedNumbers (demand-2-accepts s slips rows v a b h n (subst (λ (u : Bytes). Belongs u n) (d .1 .0) (p .belongs)) (p .agree) (d .1 .1 .1))
+      ∙ ap (λ (ts : List Told). checkedNumbers (accepted (totalsOf (batchesOf ts)))) (same-said n m s (d .1 .0) e)
+
+  pub absent : number ≡ 0 → (m : Message Document) → message declaration m ≡ s → RowsTell (batchesOf (saidBy m)) b
+  unfolding putAt
+  absent z m e =
+      let t = accepts z in
+      let q = read (t .0) (t .1) in
+      let same : saidBy (q .read) ≡ saidBy m = same-said (q .read) m s (q .bytes) e in
+      let put : b ≡ putAt rows 0 (rowsOf (saidBy m)) =
+      q .rows-are ∙ ap (λ (w : Verdict). after w rows (rowsOf (saidBy (q .read)))) (t .1) ∙ ap (λ (ts : List Told). putAt rows 0 (rowsOf ts)) same
+      in
+      subst (λ (l : List ℕ). RowsTell (batchesOf (saidBy m)) l) (sym put) (rows-tell 0 (batchesOf (saidBy m)) (drop (0 + length (rowsOf (saidBy m))) rows))

@@ -1,0 +1,4 @@
+-- Checks   demands 1 and 2, of a check        Writes   demands 1 to 3, of what the writer answers and leaves        Hold   the three demands hold
+pub mod Checks
+pub mod Writes
+pub mod Hold
