@@ -1,7 +1,7 @@
 -- WHAT THE LOOPS OF src/lib.rt KEEP. ts are the codes; `getD ts i 0` is the code of collection i.
---   Met ts k m n            `batches_of`: n of the first m collections have the code k
---   Searching ts i j        an inner search: no collection before j has the code of collection i
---   Counted c ts i n        `batches_needed`: n batches for the codes before i, with those that the other codes need, are the batches needed
+--   Met ts k m n            `mark`: n of the first m collections have the code k
+--   Searching ts i j        `label`, the inner search: no collection before j has the code of collection i
+--   Counted c ts i n        `label`: n batches for the codes before i, with those that the other codes need, are the batches needed
 --   Marked .. m             `mark`: the collections of one code among the first m have their labels (the record is of specs/)
 --   Labelled c ts out i n   `label`: the collections of the codes before i have their labels, and n is the next free number
 -- Each holds at the start (-start), at one collection more (-same or -other; -new or -old, for a code that comes for the first time or came before), and says
@@ -51,7 +51,7 @@ earlier-found ts i j l h =
       earlier-mono ts (j + 1) i (getD ts j 0) (omega arith),
     )
 
--- ─── `batches_of` ───
+-- ─── `mark`: how many have the code ───
 
 pub record Met (ts : List ℕ) (k m n : ℕ) : Type 0 where
   pub within : m ≤ length ts
@@ -124,23 +124,23 @@ module _ (ts : List ℕ) (i j : ℕ) (s : Searching ts i j) where
   searched-old : j < i → getD ts j 0 ≡ getD ts i 0 → 1 ≤ earlier ts i (getD ts i 0)
   searched-old h e = rw e at (earlier-found ts i j h (omega (arith, s .here)))
 
--- ─── `batches_needed` ───
+-- ─── `label`: the batches counted ───
 
 pub record Counted (c : ℕ) (ts : List ℕ) (i n : ℕ) : Type 0 where
   pub within : i ≤ length ts
   pub sum : n + total (sizeOf eqb c ts) (left (take i ts) (drop i ts)) ≡ needOf c ts
 
-pub counted-start : (c : ℕ) (ts : List ℕ) → Counted c ts 0 0
+counted-start : (c : ℕ) (ts : List ℕ) → Counted c ts 0 0
 counted-start c ts = record {
   within = omega arith;
   sum = zero-add _ ∙ ap (total (sizeOf eqb c ts)) (keep-true (firsts eqb ts) ∙ ap (firsts eqb) (sym (map-id ts)));
 }
 
 module _ (c : ℕ) (ts : List ℕ) (i n : ℕ) (k : Counted c ts i n) where
-  pub counted-old : (j : ℕ) → Searching ts i j → j < i → getD ts j 0 ≡ getD ts i 0 → Counted c ts (i + 1) n
+  counted-old : (j : ℕ) → Searching ts i j → j < i → getD ts j 0 ≡ getD ts i 0 → Counted c ts (i + 1) n
   counted-old j s h e = record { within = omega (arith, s .here); sum = omega (arith, k .sum, ap (total (sizeOf eqb c ts)) (left-old ts i (s .here) (searched-old ts i j s h e))) }
 
-  pub counted-new : (j r : ℕ) → Searching ts i j → i ≤ j → r ≡ sizeOf eqb c ts (getD ts i 0) → Counted c ts (i + 1) (n + r)
+  counted-new : (j r : ℕ) → Searching ts i j → i ≤ j → r ≡ sizeOf eqb c ts (getD ts i 0) → Counted c ts (i + 1) (n + r)
   counted-new j r s h e = record {
     within = omega (arith, s .here);
     sum = omega (arith, k .sum, ap (total (sizeOf eqb c ts)) (left-new ts i (s .here) (searched-new ts i j s h)));
@@ -152,7 +152,7 @@ module _ (c : ℕ) (ts : List ℕ) (i n : ℕ) (k : Counted c ts i n) where
   pub counted-small : 1 ≤ c → n ≤ length ts
   counted-small h = omega (arith, k .sum, need-le-length (λ t. t) eqb numbers-decide c ts h)
 
--- ─── `mark` ───
+-- ─── `mark`: the labels of one code ───
 
 pub marked-start : (c first k : ℕ) (ts old : List ℕ) → Marked c first k ts old old 0
 marked-start c first k ts old = record { size = refl; own = λ j l f. absurd (omega arith); other = λ j f. refl }
@@ -181,7 +181,7 @@ module _ (c first k : ℕ) (ts old new : List ℕ) (m : ℕ) (w : Marked c first
   pub marked-end : m ≤ length ts → length ts ≤ m → Marked c first k ts old new (length ts)
   marked-end h l = let e : m ≡ length ts = omega arith in rw e at w
 
--- ─── `label` ───
+-- ─── `label`: the labels ───
 
 -- the number of the first batch of the code k, and the label of collection j
 abbrev baseOf : ℕ → List ℕ → ℕ → ℕ

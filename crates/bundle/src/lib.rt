@@ -16,22 +16,6 @@ fn rounded_up(collections: u64, ceiling: u64) -> u64
     (collections + (ceiling - 1)) / ceiling
 }
 
-// How many batches the collections of this code need.
-fn batches_of(codes: &[u64], code: u64, ceiling: u64) -> u64
-    requires { do ⌜ Within (← ⟦codes.len()⟧) ceiling ⌝ }
-    ensures { λ r. ⌜ r ≡ sizeOf eqb ceiling (now (codes .entry)) code ⌝ }
-{
-    let mut met: u64 = 0;
-    let mut k = 0;
-    while k < codes.len() {
-        if codes[k] == code {
-            met += 1;
-        }
-        k += 1;
-    }
-    rounded_up(met, ceiling)
-}
-
 // Writes the batch's number for each collection of the terms of this code: `first`, and one more after every ceiling's worth. Answers the next free number.
 fn mark(codes: &[u64], code: u64, ceiling: u64, first: u64, labels: &mut [u64]) -> u64
     requires { do ⌜ Within (← ⟦codes.len()⟧) ceiling ⌝ }
@@ -50,29 +34,6 @@ fn mark(codes: &[u64], code: u64, ceiling: u64, first: u64, labels: &mut [u64]) 
         k += 1;
     }
     first + rounded_up(placed, ceiling)
-}
-
-// How many batches are needed at the ceiling: the sum over terms of its collections divided by the ceiling, rounded up.
-// Each terms is taken in order of first appearance: a collection with earlier equal terms is passed over.
-pub fn batches_needed(codes: &[u64], ceiling: u64) -> u64
-    requires { do ⌜ Within (← ⟦codes.len()⟧) ceiling ⌝ }
-    ensures { λ r. ⌜ r ≡ needOf ceiling (now (codes .entry)) ⌝ }
-{
-    let mut needed: u64 = 0;
-    let mut i = 0;
-    'outer: while i < codes.len() {
-        let mut j = 0;
-        while j < i {
-            if codes[j] == codes[i] {
-                i += 1;
-                continue 'outer;
-            }
-            j += 1;
-        }
-        needed += batches_of(codes, codes[i], ceiling);
-        i += 1;
-    }
-    needed
 }
 
 // Writes the number of each collection's batch, from 0, and answers how many batches are needed.

@@ -24,7 +24,7 @@ outer-holds : tie.Need-outer-holds Inv-loop μ-loop Inv-outer μ-outer
 outer-holds c = labelled-start _ _ _ (omega arith)
 
 loop-holds : tie.Need-loop-holds Inv-loop μ-loop Inv-outer μ-outer
-loop-holds c = (refl, record { here = c .outer-test .taken; upto = omega arith; none = refl }, c .before .outer .inv)
+loop-holds c = (refl, record { here = omega arith; upto = omega arith; none = refl }, c .before .outer .inv)
 
 mul-if1 : tie.Need-mul-if1 Inv-loop μ-loop Inv-outer μ-outer
 mul-if1 c = omega arith
@@ -47,7 +47,7 @@ outer-less c = omega arith
 outer-again : tie.Need-outer-again Inv-loop μ-loop Inv-outer μ-outer
 outer-again c =
     let inv = c .before .before .before .before .loop .inv in
-    labelled-old _ _ _ _ _ (inv .2) _ (inv .1) (c .before .before .before .loop-test .taken) (c .if1 .taken)
+    labelled-old _ _ _ _ _ (inv .2) _ (inv .1) (omega arith) (c .if1 .taken)
 
 add-earlier : tie.Need-add-earlier Inv-loop μ-loop Inv-outer μ-outer
 add-earlier c = omega arith
@@ -87,7 +87,7 @@ same-length c = omega arith
 returns : tie.Need-returns Inv-loop μ-loop Inv-outer μ-outer
 returns c =
     let inv = c .before .outer .inv in
-    (counted-end _ _ _ _ (inv .counted) (c .outer-test .left), labelled-end _ _ _ _ _ inv (c .outer-test .left))
+    (counted-end _ _ _ _ (inv .counted) (omega arith), labelled-end _ _ _ _ _ inv (omega arith))
 
 pub label-spec : {M : Type 1} → statement M
 label-spec =
