@@ -2,6 +2,7 @@
 -- Steps    what `eat` and `span` find                  Choose  what `choose` finds
 -- Right    the reader of children is right             Whole   THE THEOREMS, of every description that passes the test
 -- Pain008  the theorems of the profile tree            Ways    each way of occurring, by cases
+-- Cases    white space and the declaration, by cases
 pub mod Shared
 pub mod Onto
 pub mod Steps
@@ -10,3 +11,4 @@ pub mod Right
 pub mod Whole
 pub mod Pain008
 pub mod Ways
+pub mod Cases
