@@ -4,9 +4,11 @@
 -- Days     the days of a month, and the parts of a date and of a time of day
 -- Shapes   a front that fits a pattern and a rest of a class; what an IBAN leaves
 -- Codes    one of the words
+-- Cases    texts at both sides of each bound, computed
 pub mod Musts
 pub mod Plains
 pub mod Euros
 pub mod Days
 pub mod Shapes
 pub mod Codes
+pub mod Cases
