@@ -1,23 +1,28 @@
--- THE DEFINITIONS ON SOME LISTS, computed.
---   lineOf s                a line of these digits, ended by LF
---   empty, lone-lf          no bytes: 24 at 0; one LF: 23 at 1
---   alone                   a creditor line alone: 24 at 1
---   two                     a creditor line and two collections are good
---   lacks-lf, small-letter, carriage, odd, too-many, of-another-kind, second-creditor   23: LF is missing, a small letter, CR before LF, an odd
---                           number of digits, a byte too many, a collection as line 1, a creditor frame as line 2
---   bad-name                a name with a byte outside the letter set: 26 at its line
---   ceilings                ceilings 0 and 501: 22, whatever the list is
---   star-12                 ★12: cents bytes 17 48 76 E7 FF are good, 17 48 76 E8 00 are not
+-- DAY LISTS, AND WHAT IS TOLD OF EACH, computed: document 01's number and place of a refusal, and the flaw of a value.
+--   dayList                 the list of the examples: a creditor and two collections, the lines `creditorLine`, `first` and `second`
+--   lineOf s, frame s ts    a line of the digits s, ended by LF; a line of the digits s and of the texts ts, each behind its length byte
+--   in-words                the lines of the examples in words
+--   told j                  how a judged list is told; a good one as 0 and the number of its collections
+--   too-long, not-too-long, ceilings   21 and 22
+--   not-frames              23: a line that is no frame of its kind, or lacks LF
+--   few, many               24 and 25
+--   earlier-first           the stages' order
+--   leads, creditor-texts, collection-texts   26: each field of a line breaks its rule; some that obey it
+use Prim.Native.Nat.{ℕ, _/_, _%_, _≤_, _<_}
 use Prim.Native.String.{String}
-use mathlib.Core.List.{[], _∷_, _++_}
+use mathlib.Core.List.{List, [], _∷_, _++_, map}
 use mathlib.Core.Path.{_≡_, refl}
+use lib.ListN.{length, getD, set, replicate}
+use borrow.Author.Tests.{le-leb, lt-leb}
 use Rattle.laws.specs.Bytes.{Bytes, ascii}
-use Rattle.profile.specs.declared.Flaw.the-variants.{Letter, Number}
-use Rattle.profile.specs.declared.ListRefusal.the-variants.{Ceiling, NotAFrame, NoCollection, Value}
-use Rattle.text.specs.declared.Judged.the-variants.{Good as Fine, Bad}
+use Rattle.laws.specs.Lists.{concat, gather}
+use Rattle.profile.specs.declared.Flaw.the-variants.{Length, Letter, Slash, Number, Date, Code, Shape, CheckDigits}
+use Rattle.profile.specs.Refusals.{Fault, fault, flawed, listFaultOf}
+use Rattle.daylist.specs.declared.JudgedList.{JudgedList}
 use Rattle.daylist.specs.declared.JudgedList.the-variants.{Good, Refused}
-use Rattle.daylist.specs.Lead.{cents}
 use Rattle.daylist.specs.Stages.{judgedList}
+
+-- ─── the list of the examples ───
 
 abbrev lineOf : String → Bytes
 lineOf s = ascii s ++ 10 ∷ []
@@ -34,52 +39,153 @@ abbrev second : Bytes
 second =
     lineOf "02000100000347E00A323032362D31312D3130054645452032094D2D3636362F3636360A313938392D30372D30330842414E4B4742324C0E4D72204465626974657572204E32104245333030303132313633373134313100"
 
-empty : judgedList [] 1 ≡ Refused (NoCollection 0)
-empty = refl
+abbrev pub dayList : Bytes
+dayList = concat (creditorLine ∷ first ∷ second ∷ [])
 
-lone-lf : judgedList (10 ∷ []) 1 ≡ Refused (NotAFrame 1)
-lone-lf = refl
+-- ─── lines in words ───
 
-alone : judgedList creditorLine 1 ≡ Refused (NoCollection 1)
-alone = refl
+abbrev digits : ℕ → Bytes
+digits b = map (λ n. getD (ascii "0123456789ABCDEF") n 0) (b / 16 ∷ b % 16 ∷ [])
 
-two : judgedList (creditorLine ++ first ++ second) 500 ≡ Good 2
-two = refl
+abbrev textOf : String → Bytes
+textOf s = gather digits (length (ascii s) ∷ ascii s)
 
-lacks-lf : judgedList (creditorLine ++ ascii "02") 1 ≡ Refused (NotAFrame 2)
-lacks-lf = refl
+abbrev frame : String → List String → Bytes
+frame lead ts = concat (ascii lead ∷ gather textOf ts ∷ (10 ∷ []) ∷ [])
 
--- one text of one byte and six empty ones are a creditor frame
-small-letter : (judgedList (lineOf "01014A000000000000") 1 ≡ Refused (NoCollection 1)) × (judgedList (lineOf "01014a000000000000") 1 ≡ Refused (NotAFrame 1))
-small-letter = (refl, refl)
+abbrev creditorTexts : List String
+creditorTexts = "RUN-2026/07" ∷ "2026-11-02T09:30:00" ∷ "Leak Labs Bureau" ∷ "O'Neil Testing" ∷ "BE68539007547034" ∷ "BBRUBEBB" ∷ "BE69000050D000000008" ∷ []
 
-carriage : judgedList (ascii "01014A000000000000" ++ 13 ∷ 10 ∷ []) 1 ≡ Refused (NotAFrame 1)
-carriage = refl
+abbrev firstTexts : List String
+firstTexts = "2026-11-10" ∷ "FEE 1" ∷ "M-55555" ∷ "2009-09-01" ∷ "" ∷ "Mr Debiteur N1" ∷ "GB29NWBK60161331926819" ∷ "Facture N1" ∷ []
 
-odd : judgedList (creditorLine ++ lineOf "020") 1 ≡ Refused (NotAFrame 2)
-odd = refl
+abbrev secondTexts : List String
+secondTexts = "2026-11-10" ∷ "FEE 2" ∷ "M-666/666" ∷ "1989-07-03" ∷ "BANKGB2L" ∷ "Mr Debiteur N2" ∷ "BE30001216371411" ∷ "" ∷ []
 
-too-many : judgedList (lineOf "01014A00000000000000") 1 ≡ Refused (NotAFrame 1)
-too-many = refl
+-- kind, scheme, sequence and cents stand before a collection's texts
+in-words : (creditorLine ≡ frame "01" creditorTexts) × (first ≡ frame "020001000001ADB7" firstTexts) × (second ≡ frame "02000100000347E0" secondTexts)
+in-words = (refl, refl, refl)
 
-of-another-kind : judgedList (first ++ first) 1 ≡ Refused (NotAFrame 1)
-of-another-kind = refl
+-- ─── what is told ───
 
-second-creditor : judgedList (creditorLine ++ creditorLine) 1 ≡ Refused (NotAFrame 2)
-second-creditor = refl
+abbrev told : JudgedList → Fault
+told (Good n) = fault 0 n
+told (Refused r) = listFaultOf r
 
--- the debtor name of line 3 begins with the byte FC
-bad-name :
-    judgedList
-    (creditorLine
-    ++ first
-    ++ lineOf "02000100000347E00A323032362D31312D3130054645452032094D2D3636362F3636360A313938392D30372D30330842414E4B4742324C0EFC72204465626974657572204E32104245333030303132313633373134313100")
-    2
-    ≡ Refused (Value Letter 3)
-bad-name = refl
+-- at the ceiling 1
+abbrev toldOf : List Bytes → Fault
+toldOf ls = told (judgedList (concat ls) 1)
 
-ceilings : (judgedList [] 0 ≡ Refused Ceiling) × (judgedList (10 ∷ []) 501 ≡ Refused Ceiling)
-ceilings = (refl, refl)
+abbrev Told : List (List Bytes × Fault) → Type 0
+Told t = map (λ p. toldOf (p .0)) t ≡ map (λ p. p .1) t
 
-star-12 : (cents (0x17 ∷ 0x48 ∷ 0x76 ∷ 0xE7 ∷ 0xFF ∷ []) ≡ Fine 99_999_999_999) × (cents (0x17 ∷ 0x48 ∷ 0x76 ∷ 0xE8 ∷ 0x00 ∷ []) ≡ Bad Number)
-star-12 = (refl, refl)
+-- ─── 21 and 22 ───
+
+too-long : (s : Bytes) (c : ℕ) → 1_048_576 < length s → told (judgedList s c) ≡ fault 21 0
+too-long s c h = rw (lt-leb (length s) 1_048_576 h)
+
+not-too-long : (s : Bytes) → length s ≤ 1_048_576 → told (judgedList s 0) ≡ fault 22 0
+not-too-long s h = rw (le-leb (length s) 1_048_576 h)
+
+ceilings : map (λ c. told (judgedList dayList c)) (0 ∷ 1 ∷ 500 ∷ 501 ∷ []) ≡ fault 22 0 ∷ fault 0 2 ∷ fault 0 2 ∷ fault 22 0 ∷ []
+ceilings = refl
+
+-- ─── 23 ───
+
+-- frames of empty texts, and cents 0
+abbrev bareCreditor : Bytes
+bareCreditor = lineOf "0100000000000000"
+
+abbrev bare : Bytes
+bare = lineOf "02000000000000000000000000000000"
+
+not-frames : Told (
+    (lineOf "" ∷ [], fault 23 1)
+    ∷ (creditorLine ∷ ascii "02" ∷ [], fault 23 2)  -- LF is missing
+    ∷ (lineOf "01014a000000000000" ∷ [], fault 23 1)  -- a small letter
+    ∷ (ascii "0100000000000000" ∷ (13 ∷ 10 ∷ []) ∷ [], fault 23 1)  -- CR before LF
+    ∷ (creditorLine ∷ lineOf "020" ∷ [], fault 23 2)  -- an odd number of digits
+    ∷ (creditorLine ∷ lineOf "" ∷ first ∷ [], fault 23 2)  -- an empty line
+    ∷ (lineOf "010000000000000000" ∷ [], fault 23 1)  -- a byte too many
+    ∷ (lineOf "01000000000000" ∷ [], fault 23 1)  -- a text too few
+    ∷ (lineOf "0100000000000001" ∷ [], fault 23 1)  -- a text that runs past the end
+    ∷ (first ∷ first ∷ [], fault 23 1)  -- a collection as line 1
+    ∷ (creditorLine ∷ first ∷ creditorLine ∷ lineOf "" ∷ [], fault 23 3)  -- a creditor frame behind line 1; the first of two
+    ∷ (creditorLine ∷ lineOf "03000000000000000000000000000000" ∷ [], fault 23 2)  -- another kind
+    ∷ [])
+not-frames = refl
+
+-- ─── 24 and 25 ───
+
+few : Told (([], fault 24 0) ∷ (creditorLine ∷ [], fault 24 1) ∷ (lineOf "01014A000000000000" ∷ [], fault 24 1) ∷ (creditorLine ∷ first ∷ [], fault 0 1) ∷ [])
+few = refl
+
+many : Told ((creditorLine ∷ replicate 1_000 bare, flawed 26 Number 2) ∷ (creditorLine ∷ replicate 1_001 bare, fault 25 1_002) ∷ [])
+many = refl
+
+-- 23 before 25 and 26; 24 and 25 before 26, for frames of empty texts break their rules
+earlier-first : Told (
+    (bareCreditor ∷ bare ∷ lineOf "" ∷ [], fault 23 3)
+    ∷ (bareCreditor ∷ lineOf "" ∷ replicate 1_001 bare, fault 23 2)
+    ∷ (bareCreditor ∷ [], fault 24 1)
+    ∷ (bareCreditor ∷ bare ∷ [], flawed 26 Length 1)
+    ∷ [])
+earlier-first = refl
+
+-- ─── 26 ───
+
+-- the example with these digits of kind, scheme, sequence and cents in line 3
+abbrev ledBy : String → List Bytes
+ledBy s = creditorLine ∷ first ∷ frame s firstTexts ∷ []
+
+leads : Told (
+    (ledBy "0201010000000001", fault 0 2)
+    ∷ (ledBy "0202010000000001", flawed 26 Code 3)  -- scheme 2
+    ∷ (ledBy "0200030000000001", fault 0 2)
+    ∷ (ledBy "0200040000000001", flawed 26 Code 3)  -- sequence 4
+    ∷ (ledBy "0200010000000000", flawed 26 Number 3)  -- no cents
+    ∷ (ledBy "020001174876E7FF", fault 0 2)
+    ∷ (ledBy "020001174876E800", flawed 26 Number 3)  -- a cent too many (★12)
+    ∷ (ledBy "0200040000000000", flawed 26 Code 3)  -- the first of two
+    ∷ [])
+leads = refl
+
+-- the example with another text i, from 0, in line 1; and in line 2
+abbrev creditorBut : ℕ → String → List Bytes
+creditorBut i s = frame "01" (set creditorTexts i s) ∷ first ∷ []
+
+abbrev firstBut : ℕ → String → List Bytes
+firstBut i s = creditorLine ∷ frame "020001000001ADB7" (set firstTexts i s) ∷ []
+
+creditor-texts : Told (
+    (creditorBut 0 "/A", flawed 26 Slash 1)
+    ∷ (creditorBut 1 "2026-11-02", flawed 26 Date 1)
+    ∷ (creditorBut 2 "", flawed 26 Length 1)
+    ∷ (creditorBut 2 "//", fault 0 1)
+    ∷ (creditorBut 3 "_", flawed 26 Letter 1)
+    ∷ (creditorBut 3 "//", fault 0 1)
+    ∷ (creditorBut 4 "", flawed 26 Shape 1)
+    ∷ (creditorBut 4 "BE86539007547034", flawed 26 CheckDigits 1)
+    ∷ (creditorBut 5 "", fault 0 1)  -- NOTPROVIDED
+    ∷ (creditorBut 5 "NOTPROVIDED", flawed 26 Shape 1)
+    ∷ (creditorBut 6 "", flawed 26 Shape 1)
+    ∷ (creditorBut 6 "BE69ZZZd", flawed 26 Shape 1)
+    ∷ [])
+creditor-texts = refl
+
+collection-texts : Told (
+    (firstBut 0 "2026-02-30", flawed 26 Date 2)
+    ∷ (firstBut 1 "/A", flawed 26 Slash 2)
+    ∷ (firstBut 2 "A//B", flawed 26 Slash 2)
+    ∷ (firstBut 3 "", flawed 26 Date 2)
+    ∷ (firstBut 4 "BANKGB2L", fault 0 1)
+    ∷ (firstBut 4 "NOTPROVIDED", flawed 26 Shape 2)
+    ∷ (firstBut 5 "", flawed 26 Length 2)
+    ∷ (firstBut 5 "//", fault 0 1)
+    ∷ (firstBut 6 "", flawed 26 Shape 2)
+    ∷ (firstBut 6 "GB92NWBK60161331926819", flawed 26 CheckDigits 2)
+    ∷ (firstBut 7 "", fault 0 1)  -- no remittance
+    ∷ (firstBut 7 "_", flawed 26 Letter 2)
+    ∷ (firstBut 7 "12345678901234567890123456789012345678901234567890123456789012345678901", fault 0 1)  -- longer than a name
+    ∷ [])
+collection-texts = refl
