@@ -1,28 +1,15 @@
--- THE MESSAGE THAT IS WRITTEN for one list, byte for byte: what the definitions compute.
---   dayList                 a creditor and two collections of one terms: the first without a bank and with remittance, the second with a bank and without remittance
+-- THE MESSAGE THAT IS WRITTEN for the list of the examples, byte for byte: what the definitions compute. Its two collections are of one terms.
 --   together, one-by-one    at the ceiling 2 one batch of both, 1,743 bytes; at the ceiling 1 two batches of one each, 2,338 bytes
 use Prim.Native.String.{String}
 use mathlib.Core.Bool.{_&&_}
-use mathlib.Core.List.{[], _∷_, _++_}
+use mathlib.Core.List.{[], _∷_}
 use lib.Dec.{T, eqb}
 use lib.ListN.{length}
 use Rattle.laws.specs.Bytes.{Bytes, ascii, same}
 use Rattle.laws.specs.Lists.{concat}
 use Rattle.put.specs.Numerals.{decimalOf}
+use Rattle.daylist.proofs.Cases.{dayList}
 use Rattle.written.specs.Written.{written}
-
--- ─── the list ───
-
-abbrev lineOf : String → Bytes
-lineOf s = ascii s ++ 10 ∷ []
-
-abbrev dayList : Bytes
-dayList =
-    concat (
-    lineOf "010B52554E2D323032362F303713323032362D31312D30325430393A33303A3030104C65616B204C616273204275726561750E4F274E65696C2054657374696E671042453638353339303037353437303334084242525542454242144245363930303030353044303030303030303038"
-    ∷ lineOf "020001000001ADB70A323032362D31312D3130054645452031074D2D35353535350A323030392D30392D3031000E4D72204465626974657572204E3116474232394E57424B36303136313333313932363831390A46616374757265204E31"
-    ∷ lineOf "02000100000347E00A323032362D31312D3130054645452032094D2D3636362F3636360A313938392D30372D30330842414E4B4742324C0E4D72204465626974657572204E32104245333030303132313633373134313100"
-    ∷ [])
 
 -- ─── the parts of the message ───
 
