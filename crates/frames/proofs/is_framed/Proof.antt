@@ -7,6 +7,7 @@ use Rattle.laws.specs.Bytes.{Bytes}
 use lib.ListN.{length, drop, getD}
 use mathlib.Core.Path.{_≡_, refl, sym, _∙_}
 use Prim.Native.Nat.{_≤_, _<_, _+_, _/_}
+use native.Mathlib.Omega.{arith}
 use borrow.Author.Needs.{needs}
 use Rattle.frames.proofs.is_framed.Statement.{statement}
 use Rattle.frames.proofs.is_framed.Tie as tie
@@ -73,7 +74,7 @@ sub-if5 c = search needs
 returns-5 : tie.Need-returns-5 Inv-loop μ-loop
 returns-5 c =
     let l = c .before .before .before .before .loop in
-    sym (begins (c .before .before .before .before .before) ∙ l .inv .0 ∙ holds-over (l .left) (bytes (c .before .before .before .before .before .before .before .before .before)) (l .at) (c .before .before .before .loop-test .taken) (here (c .before .before)) (rw (count (c .before .before .before .before .before .before .before .before .before), ← (c .before .byte-at2 .ensures)) (c .if5 .taken)))
+    sym (begins (c .before .before .before .before .before) ∙ l .inv .0 ∙ holds-over (l .left) (bytes (c .before .before .before .before .before .before .before .before .before)) (l .at) (c .before .before .before .loop-test .taken) (here (c .before .before)) (rw (count (c .before .before .before .before .before .before .before .before .before), ← (c .before .byte-at2 .ensures)) (omega arith)))
 
 add-at-3 : tie.Need-add-at-3 Inv-loop μ-loop
 add-at-3 c = search needs
@@ -89,7 +90,7 @@ loop-again c =
     let l = c .before .before .before .before .loop in
     let s = bytes (c .before .before .before .before .before .before .before .before .before) in
     let b : getD s (l .at) 0 ≡ c .before .byte-at2 .result = sym (c .before .byte-at2 .ensures) in
-    (l .inv .0 ∙ rw b at (holds-go (l .left) s (l .at) (c .before .before .before .loop-test .taken) (here (c .before .before)) (rw (count (c .before .before .before .before .before .before .before .before .before), b) (c .if5 .left))), passed _ _ _ _ (count (c .before .before .before .before .before .before .before .before .before)) (c .before .before .if4 .left) (c .if5 .left))
+    (l .inv .0 ∙ rw b at (holds-go (l .left) s (l .at) (c .before .before .before .loop-test .taken) (here (c .before .before)) (rw (count (c .before .before .before .before .before .before .before .before .before), b) (omega arith))), passed _ _ _ _ (count (c .before .before .before .before .before .before .before .before .before)) (c .before .before .if4 .left) (c .if5 .left))
 
 returns-6 : tie.Need-returns-6 Inv-loop μ-loop
 returns-6 c =
