@@ -16,6 +16,8 @@ ghost use Rattle.put.specs.Wrote.{Wrote};
 ghost use Rattle.listed.specs.Listed.{listed, creditorOf};
 ghost use Rattle.written.specs.Pieces.{transactionBytes, termsBytes, headBytes, batchBytes};
 ghost use Rattle.batched.specs.Ready.{collectionAt, Ready, Batch};
+use profile::ControlSum;
+use profile::NumberOfTransactions;
 
 // ─── a line ───
 
@@ -28,15 +30,15 @@ fn line_end(list: &[u8], start: usize) -> usize
 }
 
 // The cents of the line that starts at a place, where it is one of the batch, else 0. They stand in its first eight bytes, in 16 digits.
-fn own_cents(list: &[u8], start: usize, own: bool) -> u64
+fn own_cents(list: &[u8], start: usize, own: bool) -> ControlSum
     requires { ⌜ start ≤ length (now list) ⌝ }
     requires { ⌜ framed collection (unhex (lineFrom (now list) start)) ≡ true ⌝ }
-    ensures { λ r. ⌜ r ≡ total (λ x. x .cents) (putIf own (collectionAt (now (list .entry)) start) []) ⌝ }
+    ensures { λ r. ⌜ r .0 ≡ total (λ x. x .cents) (putIf own (collectionAt (now (list .entry)) start) []) ⌝ }
 {
     if own {
         return pieces::transaction::cents_of(&list[start..start + 16]);
     }
-    0
+    ControlSum(0)
 }
 
 // The transaction of the line that starts at a place, where it is one of the batch, else nothing.
@@ -83,8 +85,8 @@ fn first_of(labels: &[u64], batch: u64) -> usize
 }
 
 // How many collections the batch has.
-pub fn count_of(labels: &[u64], batch: u64) -> u64
-    ensures { λ r. ⌜ r ≡ count (eqb batch) (now (labels .entry)) ⌝ }
+pub fn count_of(labels: &[u64], batch: u64) -> NumberOfTransactions
+    ensures { λ r. ⌜ r .0 ≡ count (eqb batch) (now (labels .entry)) ⌝ }
 {
     let mut met: u64 = 0;
     let mut i = 0;
@@ -94,22 +96,22 @@ pub fn count_of(labels: &[u64], batch: u64) -> u64
         }
         i += 1;
     }
-    met
+    NumberOfTransactions(met)
 }
 
 // The cents of the batch's collections.
-pub fn cents_of(list: &[u8], table: &[usize], labels: &[u64], batch: u64) -> u64
+pub fn cents_of(list: &[u8], table: &[usize], labels: &[u64], batch: u64) -> ControlSum
     requires { ⌜ Ready (now list) (now table) (now labels) ⌝ }
-    ensures { λ r. ⌜ r ≡ total (λ x. x .cents) (pick batch (now (labels .entry)) (listed (now (list .entry)))) ⌝ }
-    ensures { λ r. ⌜ r ≤ mostCents * length (now (labels .entry)) ⌝ }
+    ensures { λ r. ⌜ r .0 ≡ total (λ x. x .cents) (pick batch (now (labels .entry)) (listed (now (list .entry)))) ⌝ }
+    ensures { λ r. ⌜ r .0 ≤ mostCents * length (now (labels .entry)) ⌝ }
 {
     let mut cents: u64 = 0;
     let mut i = 0;
     while i < labels.len() {
-        cents += own_cents(list, table[i + 1], batch == labels[i]);
+        cents += own_cents(list, table[i + 1], batch == labels[i]).0;
         i += 1;
     }
-    cents
+    ControlSum(cents)
 }
 
 // Their transactions, in list order.

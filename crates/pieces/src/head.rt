@@ -11,6 +11,8 @@ ghost use Rattle.written.specs.Written.{schemeWord, sequenceWord};
 ghost use Rattle.written.specs.Pieces.{termsBytes, creditorBytes, openingBytes};
 ghost use Rattle.pieces.specs.Texts.{idBytes, sumsBytes, totalsOf, openingIds};
 use crate::texts;
+use profile::ControlSum;
+use profile::NumberOfTransactions;
 
 // ─── a batch ───
 
@@ -24,20 +26,26 @@ fn put_id(out: &mut [u8], at: usize, number: u64) -> usize
 }
 
 // A number of transactions, and their sum.
-fn put_sums(out: &mut [u8], at: usize, count: u64, cents: u64) -> usize
+fn put_sums(out: &mut [u8], at: usize, count: NumberOfTransactions, cents: ControlSum) -> usize
     requires { ⌜ at + 80 < 2 ^ 32 ⌝ }
-    ensures { λ r. ⌜ Wrote (now (out .entry)) (now (out .exit)) at r (sumsBytes count cents) ⌝ }
+    ensures { λ r. ⌜ Wrote (now (out .entry)) (now (out .exit)) at r (sumsBytes (count .0) (cents .0)) ⌝ }
     ensures { λ r. ⌜ r ≤ at + 80 ⌝ }
 {
-    let number = put::put_decimal(out, at, count);
+    let number = put::put_count(out, at, count);
     let sum = put::put(out, number, b"</NbOfTxs><CtrlSum>");
     put::put_euros(out, sum, cents)
 }
 
 // A batch up to its terms.
-pub fn put_totals(out: &mut [u8], at: usize, number: u64, count: u64, cents: u64) -> usize
+pub fn put_totals(
+    out: &mut [u8],
+    at: usize,
+    number: u64,
+    count: NumberOfTransactions,
+    cents: ControlSum,
+) -> usize
     requires { ⌜ at + 300 < 2 ^ 32 ⌝ }
-    ensures { λ r. ⌜ Wrote (now (out .entry)) (now (out .exit)) at r (totalsOf number count cents) ⌝ }
+    ensures { λ r. ⌜ Wrote (now (out .entry)) (now (out .exit)) at r (totalsOf number (count .0) (cents .0)) ⌝ }
     ensures { λ r. ⌜ r ≤ at + 300 ⌝ }
 {
     let id = put_id(out, at, number);
@@ -151,10 +159,16 @@ fn put_ids(out: &mut [u8], at: usize, line: &[u8]) -> usize
 }
 
 // The message before its first batch, for so many collections of so many cents.
-pub fn put_opening(out: &mut [u8], at: usize, line: &[u8], count: u64, cents: u64) -> usize
+pub fn put_opening(
+    out: &mut [u8],
+    at: usize,
+    line: &[u8],
+    count: NumberOfTransactions,
+    cents: ControlSum,
+) -> usize
     requires { ⌜ framed creditor (unhex (now line)) ≡ true ⌝ }
     requires { ⌜ at + 1300 < 2 ^ 32 ⌝ }
-    ensures { λ r. ⌜ Wrote (now (out .entry)) (now (out .exit)) at r (openingBytes (creditorOf (unhex (now (line .entry)))) count cents) ⌝ }
+    ensures { λ r. ⌜ Wrote (now (out .entry)) (now (out .exit)) at r (openingBytes (creditorOf (unhex (now (line .entry)))) (count .0) (cents .0)) ⌝ }
     ensures { λ r. ⌜ r ≤ at + 1300 ⌝ }
 {
     let ids = put_ids(out, at, line);

@@ -8,6 +8,7 @@ ghost use Rattle.put.specs.Wrote.{Wrote};
 ghost use Rattle.listed.specs.Listed.{collectionOf};
 ghost use Rattle.written.specs.Pieces.{remittanceBytes, paymentBytes, debtorBytes, transactionBytes};
 use crate::texts;
+use profile::ControlSum;
 
 // RmtInf, or nothing where the text is empty.
 fn put_remittance(out: &mut [u8], at: usize, line: &[u8]) -> usize
@@ -25,10 +26,10 @@ fn put_remittance(out: &mut [u8], at: usize, line: &[u8]) -> usize
 }
 
 // The cents of a collection.
-pub fn cents_of(line: &[u8]) -> u64
-    ensures { λ r. ⌜ r ≡ collectionOf (unhex (now (line .entry))) .cents ⌝ }
+pub fn cents_of(line: &[u8]) -> ControlSum
+    ensures { λ r. ⌜ r .0 ≡ collectionOf (unhex (now (line .entry))) .cents ⌝ }
 {
-    daylist::values::high_first(line, 3, 5)
+    ControlSum(daylist::values::high_first(line, 3, 5))
 }
 
 // Up to the debtor's bank.

@@ -7,6 +7,8 @@ ghost use lib.ListN.{length, drop};
 ghost use Rattle.frames.specs.Hex.{unhex};
 ghost use Rattle.put.specs.Numerals.{digit, decimal, euros, batchId};
 ghost use Rattle.put.specs.Wrote.{Wrote};
+use profile::ControlSum;
+use profile::NumberOfTransactions;
 
 // ─── bytes ───
 
@@ -88,7 +90,7 @@ fn digits_of(n: u64, digits: &mut [u8]) -> usize
 }
 
 // A number without leading zeros.
-pub fn put_decimal(out: &mut [u8], at: usize, n: u64) -> usize
+fn put_decimal(out: &mut [u8], at: usize, n: u64) -> usize
     requires { ⌜ at + 20 < 2 ^ 32 ⌝ }
     ensures { λ r. ⌜ Wrote (now (out .entry)) (now (out .exit)) at r (decimal n) ⌝ }
 {
@@ -97,11 +99,20 @@ pub fn put_decimal(out: &mut [u8], at: usize, n: u64) -> usize
     put(out, at, &digits[from..])
 }
 
-// Cents as euros, with two decimals and no needless leading zero.
-pub fn put_euros(out: &mut [u8], at: usize, cents: u64) -> usize
-    requires { ⌜ at + 23 < 2 ^ 32 ⌝ }
-    ensures { λ r. ⌜ Wrote (now (out .entry)) (now (out .exit)) at r (euros cents) ⌝ }
+// A number of transactions.
+pub fn put_count(out: &mut [u8], at: usize, count: NumberOfTransactions) -> usize
+    requires { ⌜ at + 20 < 2 ^ 32 ⌝ }
+    ensures { λ r. ⌜ Wrote (now (out .entry)) (now (out .exit)) at r (decimal (count .0)) ⌝ }
 {
+    put_decimal(out, at, count.0)
+}
+
+// Cents as euros, with two decimals and no needless leading zero.
+pub fn put_euros(out: &mut [u8], at: usize, sum: ControlSum) -> usize
+    requires { ⌜ at + 23 < 2 ^ 32 ⌝ }
+    ensures { λ r. ⌜ Wrote (now (out .entry)) (now (out .exit)) at r (euros (sum .0)) ⌝ }
+{
+    let cents = sum.0;
     let point = put_decimal(out, at, cents / 100);
     let tenths = put_byte(out, point, b'.');
     let hundredths = put_byte(out, tenths, digit(cents / 10));

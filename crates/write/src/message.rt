@@ -12,34 +12,36 @@ ghost use Rattle.put.specs.Wrote.{Wrote};
 ghost use Rattle.listed.specs.Listed.{listed, creditorOf};
 ghost use Rattle.written.specs.Pieces.{batchesBytes, messageBytes};
 ghost use Rattle.batched.specs.Ready.{Ready, Batches, batchesFrom};
+use profile::ControlSum;
+use profile::NumberOfTransactions;
 
 // How many collections the batches have.
-fn count_all(labels: &[u64], batches: u64) -> u64
+fn count_all(labels: &[u64], batches: u64) -> NumberOfTransactions
     requires { ⌜ (length (now labels) ≤ 1000) × (batches ≤ 64) ⌝ }
-    ensures { λ r. ⌜ r ≡ total (λ k. count (eqb k) (now (labels .entry))) (upTo batches) ⌝ }
+    ensures { λ r. ⌜ r .0 ≡ total (λ k. count (eqb k) (now (labels .entry))) (upTo batches) ⌝ }
 {
     let mut sum: u64 = 0;
     let mut k = 0;
     while k < batches {
-        sum += batched::count_of(labels, k);
+        sum += batched::count_of(labels, k).0;
         k += 1;
     }
-    sum
+    NumberOfTransactions(sum)
 }
 
 // Their cents.
-fn cents_all(list: &[u8], table: &[usize], labels: &[u64], batches: u64) -> u64
+fn cents_all(list: &[u8], table: &[usize], labels: &[u64], batches: u64) -> ControlSum
     requires { ⌜ Ready (now list) (now table) (now labels) ⌝ }
     requires { ⌜ batches ≤ 64 ⌝ }
-    ensures { λ r. ⌜ r ≡ total (λ k. total (λ x. x .cents) (pick k (now (labels .entry)) (listed (now (list .entry))))) (upTo batches) ⌝ }
+    ensures { λ r. ⌜ r .0 ≡ total (λ k. total (λ x. x .cents) (pick k (now (labels .entry)) (listed (now (list .entry))))) (upTo batches) ⌝ }
 {
     let mut sum: u64 = 0;
     let mut k = 0;
     while k < batches {
-        sum += batched::cents_of(list, table, labels, k);
+        sum += batched::cents_of(list, table, labels, k).0;
         k += 1;
     }
-    sum
+    ControlSum(sum)
 }
 
 // The batches.

@@ -35,7 +35,7 @@ own-cents-requires : tie.Need-own-cents-requires Inv-loop μ-loop
 own-cents-requires c κs = let x = c .before .before .before .before .before .before .before in (x .pre .inside _ (c .before .before .loop-test .taken), x .pre .frame _ (c .before .before .loop-test .taken))
 
 add-cents : tie.Need-add-cents Inv-loop μ-loop
-add-cents c = let x = c .before .before .before .before .before .before .before .before in let l = c .before .before .before .before .loop in omega (arith, x .pre .few, l .inv .within, l .inv .few, summed-few (x .args .list .now) (x .args .table .now) (x .args .labels .now) (x .args .batch) (x .pre) (l .i) (c .before .before .before .loop-test .taken) _ (c .own-cents .ensures))
+add-cents c = let x = c .before .before .before .before .before .before .before .before .before in let l = c .before .before .before .before .before .loop in omega (arith, x .pre .few, l .inv .within, l .inv .few, summed-few (x .args .list .now) (x .args .table .now) (x .args .labels .now) (x .args .batch) (x .pre) (l .i) (c .before .before .before .before .loop-test .taken) _ (c .before .own-cents .ensures))
 
 add-i : tie.Need-add-i Inv-loop μ-loop
 add-i c = search needs
@@ -44,7 +44,7 @@ loop-less : tie.Need-loop-less Inv-loop μ-loop
 loop-less c = search needs
 
 loop-again : tie.Need-loop-again Inv-loop μ-loop
-loop-again c = let x = c .before .before .before .before .before .before .before .before in let l = c .before .before .before .before .loop in summed-on (x .args .list .now) (x .args .table .now) (x .args .labels .now) (x .args .batch) (x .pre) (l .i) (c .before .before .before .loop-test .taken) _ _ (l .inv) (c .own-cents .ensures)
+loop-again c = let x = c .before .before .before .before .before .before .before .before .before in let l = c .before .before .before .before .before .loop in summed-on (x .args .list .now) (x .args .table .now) (x .args .labels .now) (x .args .batch) (x .pre) (l .i) (c .before .before .before .before .loop-test .taken) _ _ (l .inv) (c .before .own-cents .ensures)
 
 returns : tie.Need-returns Inv-loop μ-loop
 returns c = let x = c .before .before .before .before .before in let l = c .before .loop in (summed-end (x .args .list .now) (x .args .table .now) (x .args .labels .now) (x .args .batch) _ _ (l .inv) (c .loop-test .left), omega (arith, l .inv .within, l .inv .few))

@@ -21,19 +21,19 @@ put-decimal-requires : tie.Need-put-decimal-requires
 put-decimal-requires c κs = search needs
 
 put-byte-requires : tie.Need-put-byte-requires
-put-byte-requires c κs = omega (arith, length-decimal (c .before .before .before .before .before .before .args .cents / 100))
+put-byte-requires c κs = omega (arith, length-decimal (c .before .before .before .before .before .before .args .sum .0 / 100))
 
 digit-requires : tie.Need-digit-requires
 digit-requires c κs = search needs
 
 put-byte-requires-2 : tie.Need-put-byte-requires-2
-put-byte-requires-2 c κs = omega (arith, length-decimal (c .before .before .before .before .before .before .before .before .before .before .before .args .cents / 100))
+put-byte-requires-2 c κs = omega (arith, length-decimal (c .before .before .before .before .before .before .before .before .before .before .before .args .sum .0 / 100))
 
 digit-requires-2 : tie.Need-digit-requires-2
 digit-requires-2 c κs = search needs
 
 put-byte-requires-3 : tie.Need-put-byte-requires-3
-put-byte-requires-3 c κs = omega (arith, length-decimal (c .before .before .before .before .before .before .before .before .before .before .before .before .before .before .before .before .args .cents / 100))
+put-byte-requires-3 c κs = omega (arith, length-decimal (c .before .before .before .before .before .before .before .before .before .before .before .before .before .before .before .before .args .sum .0 / 100))
 
 same-length : tie.Need-same-length
 same-length c = search needs

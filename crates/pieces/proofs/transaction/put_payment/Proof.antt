@@ -28,24 +28,24 @@ slice-aggregate-put-behind-2 : tie.Need-slice-aggregate-put-behind-2
 slice-aggregate-put-behind-2 c = refl
 
 put-behind-requires-2 : tie.Need-put-behind-requires-2
-put-behind-requires-2 c κs = (record { is = c .before .before .before .before .before .before .before .before .before .before .before .before .before .before .before .before .before .before .before .pre .0; there = omega arith }, omega (arith, length-euros (c .before .before .before .before .before .cents-of .result), c .before .before .before .before .put-euros .ensures .end, c .before .before .before .before .before .before .before .before .before .put .ensures .end, c .before .before .before .before .before .before .before .before .before .before .before .before .before .before .put-behind .ensures .1))
+put-behind-requires-2 c κs = (record { is = c .before .before .before .before .before .before .before .before .before .before .before .before .before .before .before .before .before .before .before .pre .0; there = omega arith }, omega (arith, length-euros (c .before .before .before .before .before .cents-of .result .0), c .before .before .before .before .put-euros .ensures .end, c .before .before .before .before .before .before .before .before .before .put .ensures .end, c .before .before .before .before .before .before .before .before .before .before .before .before .before .before .put-behind .ensures .1))
 
 slice-aggregate-put-behind-3 : tie.Need-slice-aggregate-put-behind-3
 slice-aggregate-put-behind-3 c = refl
 
 put-behind-requires-3 : tie.Need-put-behind-requires-3
-put-behind-requires-3 c κs = (record { is = c .before .before .before .before .before .before .before .before .before .before .before .before .before .before .before .before .before .before .before .before .before .before .before .before .pre .0; there = omega arith }, omega (arith, length-euros (c .before .before .before .before .before .before .before .before .before .before .cents-of .result), c .before .before .before .before .put-behind2 .ensures .1, c .before .before .before .before .before .before .before .before .before .put-euros .ensures .end, c .before .before .before .before .before .before .before .before .before .before .before .before .before .before .put .ensures .end, c .before .before .before .before .before .before .before .before .before .before .before .before .before .before .before .before .before .before .before .put-behind .ensures .1, c .before .before .before .before .before .before .before .before .before .before .before .before .before .before .before .before .before .before .before .before .before .before .before .before .pre .1))
+put-behind-requires-3 c κs = (record { is = c .before .before .before .before .before .before .before .before .before .before .before .before .before .before .before .before .before .before .before .before .before .before .before .before .pre .0; there = omega arith }, omega (arith, length-euros (c .before .before .before .before .before .before .before .before .before .before .cents-of .result .0), c .before .before .before .before .put-behind2 .ensures .1, c .before .before .before .before .before .before .before .before .before .put-euros .ensures .end, c .before .before .before .before .before .before .before .before .before .before .before .before .before .before .put .ensures .end, c .before .before .before .before .before .before .before .before .before .before .before .before .before .before .before .before .before .before .before .put-behind .ensures .1, c .before .before .before .before .before .before .before .before .before .before .before .before .before .before .before .before .before .before .before .before .before .before .before .before .pre .1))
 
 slice-aggregate-put-2 : tie.Need-slice-aggregate-put-2
 slice-aggregate-put-2 c = refl
 
 put-requires-2 : tie.Need-put-requires-2
-put-requires-2 c κs = omega (arith, length-euros (c .before .before .before .before .before .before .before .before .before .before .before .before .before .before .before .cents-of .result), c .before .before .before .before .put-behind3 .ensures .1, c .before .before .before .before .before .before .before .before .before .put-behind2 .ensures .1, c .before .before .before .before .before .before .before .before .before .before .before .before .before .before .put-euros .ensures .end, c .before .before .before .before .before .before .before .before .before .before .before .before .before .before .before .before .before .before .before .put .ensures .end, c .before .before .before .before .before .before .before .before .before .before .before .before .before .before .before .before .before .before .before .before .before .before .before .before .put-behind .ensures .1, c .before .before .before .before .before .before .before .before .before .before .before .before .before .before .before .before .before .before .before .before .before .before .before .before .before .before .before .before .before .pre .1)
+put-requires-2 c κs = omega (arith, length-euros (c .before .before .before .before .before .before .before .before .before .before .before .before .before .before .before .cents-of .result .0), c .before .before .before .before .put-behind3 .ensures .1, c .before .before .before .before .before .before .before .before .before .put-behind2 .ensures .1, c .before .before .before .before .before .before .before .before .before .before .before .before .before .before .put-euros .ensures .end, c .before .before .before .before .before .before .before .before .before .before .before .before .before .before .before .before .before .before .before .put .ensures .end, c .before .before .before .before .before .before .before .before .before .before .before .before .before .before .before .before .before .before .before .before .before .before .before .before .put-behind .ensures .1, c .before .before .before .before .before .before .before .before .before .before .before .before .before .before .before .before .before .before .before .before .before .before .before .before .before .before .before .before .before .pre .1)
 
 returns : tie.Need-returns
 returns c = (
   (wrote-then _ _ (c .before .before .before .before .before .before .before .before .before .before .before .before .before .before .before .before .before .before .before .before .before .before .before .before .before .before .before .put-behind .ensures .0) (wrote-then _ _ (c .before .before .before .before .before .before .before .before .before .before .before .before .before .before .before .before .before .before .before .before .before .before .put .ensures) (wrote-then _ _ (rw (c .before .before .before .before .before .before .before .before .before .before .before .before .before .before .before .before .before .before .cents-of .ensures) at (c .before .before .before .before .before .before .before .before .before .before .before .before .before .before .before .before .before .put-euros .ensures)) (wrote-then _ _ (c .before .before .before .before .before .before .before .before .before .before .before .before .put-behind2 .ensures .0) (wrote-then _ _ (c .before .before .before .before .before .before .before .put-behind3 .ensures .0) (c .before .before .put2 .ensures)))))),
-  omega (arith, length-euros (c .before .before .before .before .before .before .before .before .before .before .before .before .before .before .before .before .before .before .cents-of .result), c .before .before .before .before .before .before .before .before .before .before .before .before .before .before .before .before .before .before .before .before .before .before .before .before .before .before .before .put-behind .ensures .1, c .before .before .before .before .before .before .before .before .before .before .before .before .before .before .before .before .before .before .before .before .before .before .put .ensures .end, c .before .before .before .before .before .before .before .before .before .before .before .before .before .before .before .before .before .put-euros .ensures .end, c .before .before .before .before .before .before .before .before .before .before .before .before .put-behind2 .ensures .1, c .before .before .before .before .before .before .before .put-behind3 .ensures .1, c .before .before .put2 .ensures .end),
+  omega (arith, length-euros (c .before .before .before .before .before .before .before .before .before .before .before .before .before .before .before .before .before .before .cents-of .result .0), c .before .before .before .before .before .before .before .before .before .before .before .before .before .before .before .before .before .before .before .before .before .before .before .before .before .before .before .put-behind .ensures .1, c .before .before .before .before .before .before .before .before .before .before .before .before .before .before .before .before .before .before .before .before .before .before .put .ensures .end, c .before .before .before .before .before .before .before .before .before .before .before .before .before .before .before .before .before .put-euros .ensures .end, c .before .before .before .before .before .before .before .before .before .before .before .before .put-behind2 .ensures .1, c .before .before .before .before .before .before .before .put-behind3 .ensures .1, c .before .before .put2 .ensures .end),
 )
 
 same-length : tie.Need-same-length

@@ -16,7 +16,7 @@ abbrev μ-loop : tie.MeasureT-loop
 μ-loop labels batches sum₀ k₀ sum k = batches - k
 
 -- a batch has no more than there are
-few : (c : tie.After-count-of Inv-loop μ-loop) → c .count-of .result ≤ 1_000
+few : (c : tie.After-count-of Inv-loop μ-loop) → c .count-of .result .0 ≤ 1_000
 few c = omega (arith, c .count-of .ensures, count-le-length (eqb (c .before .before .loop .k)) (c .before .before .before .before .args .labels .now), c .before .before .before .before .pre .0)
 
 loop-holds : tie.Need-loop-holds Inv-loop μ-loop
@@ -26,7 +26,7 @@ count-of-requires : tie.Need-count-of-requires Inv-loop μ-loop
 count-of-requires c κs = search needs
 
 add-sum : tie.Need-add-sum Inv-loop μ-loop
-add-sum c = let l = c .before .before .loop in omega (arith, few c, l .inv .few, l .inv .within, c .before .before .before .before .pre .1)
+add-sum c = let l = c .before .before .before .loop in omega (arith, few (c .before), l .inv .few, l .inv .within, c .before .before .before .before .before .pre .1)
 
 add-k : tie.Need-add-k Inv-loop μ-loop
 add-k c = search needs
@@ -35,7 +35,7 @@ loop-less : tie.Need-loop-less Inv-loop μ-loop
 loop-less c = search needs
 
 loop-again : tie.Need-loop-again Inv-loop μ-loop
-loop-again c = let l = c .before .before .loop in tallied-on (λ k. count (eqb k) (c .before .before .before .before .args .labels .now)) _ _ _ _ (l .inv) _ (c .before .loop-test .taken) (c .count-of .ensures) (few c)
+loop-again c = let l = c .before .before .before .loop in tallied-on (λ k. count (eqb k) (c .before .before .before .before .before .args .labels .now)) _ _ _ _ (l .inv) _ (c .before .before .loop-test .taken) (c .before .count-of .ensures) (few (c .before))
 
 returns : tie.Need-returns Inv-loop μ-loop
 returns c = tallied-end _ _ _ _ _ (c .before .loop .inv) (c .loop-test .left)
