@@ -2,8 +2,9 @@
 --   collectionAt s a                 the collection that the line from a on holds
 --   Ready s table labels             each collection of the list s is found by the table, and has a label
 --   Batch .. k, Batches .. m         a collection has the label k; for each label below m one has it
+--   batchRoom                        no batch has more bytes
 --   batchesFrom k m labels xs        m batches from number k on: each the collections of xs that have its label
-use Prim.Native.Nat.{ℕ, _+_, _≤_, _<_}
+use Prim.Native.Nat.{ℕ, _+_, _*_, _≤_, _<_}
 use mathlib.Core.Bool.{true}
 use mathlib.Core.List.{List, map}
 use mathlib.Core.Path.{_≡_}
@@ -40,6 +41,10 @@ pub record Batches (s : Bytes) (table labels : List ℕ) (m : ℕ) : Type 0 wher
   pub ready : Ready s table labels
   pub some : (k : ℕ) → k < m → 1 ≤ count (eqb k) labels
   pub most : m ≤ mostBatches
+
+-- 2,300 for each transaction, and what stands before and behind them
+abbrev pub batchRoom : ℕ
+batchRoom = 2_300 * mostCollections + 3_000
 
 abbrev pub batchesFrom : {X : Type 0} → ℕ → ℕ → List ℕ → List X → List (List X)
 batchesFrom k m labels xs = map (λ j. pick j labels xs) (upFrom k m)

@@ -15,7 +15,7 @@ ghost use Rattle.bundle.specs.Labels.{pick};
 ghost use Rattle.put.specs.Wrote.{Wrote};
 ghost use Rattle.listed.specs.Listed.{listed, creditorOf};
 ghost use Rattle.written.specs.Pieces.{transactionBytes, termsBytes, headBytes, batchBytes};
-ghost use Rattle.batched.specs.Ready.{collectionAt, Ready, Batch};
+ghost use Rattle.batched.specs.Ready.{collectionAt, Ready, Batch, batchRoom};
 use profile::ControlSum;
 use profile::NumberOfTransactions;
 
@@ -175,9 +175,9 @@ pub fn put_batch(
 ) -> usize
     requires { ⌜ framed creditor (unhex (now line)) ≡ true ⌝ }
     requires { ⌜ Batch (now list) (now table) (now labels) batch ⌝ }
-    requires { ⌜ at + 2303000 < 2 ^ 32 ⌝ }
+    requires { ⌜ at + batchRoom < 2 ^ 32 ⌝ }
     ensures { λ r. ⌜ Wrote (now (out .entry)) (now (out .exit)) at r (batchBytes (creditorOf (unhex (now (line .entry)))) (batch + 1) (pick batch (now (labels .entry)) (listed (now (list .entry))))) ⌝ }
-    ensures { λ r. ⌜ r ≤ at + 2303000 ⌝ }
+    ensures { λ r. ⌜ r ≤ at + batchRoom ⌝ }
 {
     let head = put_head(out, at, line, list, table, labels, batch);
     let transactions = put_transactions(out, head, list, table, labels, batch);

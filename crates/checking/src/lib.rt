@@ -8,8 +8,18 @@ ghost use Rattle.answer.specs.Said.{said};
 ghost use Rattle.checked.specs.Check.{Checks};
 ghost use Rattle.checking.specs.Inner.{Verdicts, Fills};
 use answer::Checked;
+use profile::Profile;
 use profile::Refusal;
 use reader::Outcome;
+
+// Beside the lent tables: the slips of a brief message have room for 21 transactions.
+const BRIEF_SLIPS: usize = 21 * Profile::SLIP;
+
+// Its rows have room for 8 batches.
+const BRIEF_ROWS: usize = 8 * Profile::ROW;
+
+// The slips of a short message have room for 200 transactions, its rows for every batch.
+const SHORT_SLIPS: usize = 200 * Profile::SLIP;
 
 // One pass over a message: its slips and rows into the tables `a` and `b`, where these have room for them, and the verdict on it with tables of `slips` and
 // `rows` numbers.
@@ -46,8 +56,8 @@ fn check_beside(
     match checked {
         Checked::Refused(refusal) => Checked::Refused(refusal),
         Checked::Accepted(totals) => {
-            let n = 12 * totals.transactions.0 as usize;
-            let m = 8 * totals.batches as usize;
+            let n = Profile::SLIP * totals.transactions.0 as usize;
+            let m = Profile::ROW * totals.batches as usize;
             if n <= a.len() {
                 if m <= b.len() {
                     kept::copy(&mut slips[0..n], &a[0..n]);
@@ -61,21 +71,21 @@ fn check_beside(
     }
 }
 
-// The check of a brief message, with room for 21 transactions in 8 batches.
+// The check of a brief message.
 fn check_brief(message: &[u8], slips: &mut [u64], rows: &mut [u64]) -> Checked
     ensures { λ r. ⌜ Checks (now (message .entry)) (now (slips .entry)) (now (rows .entry)) (said r) (now (slips .exit)) (now (rows .exit)) ⌝ }
 {
-    let mut a = [0u64; 252];
-    let mut b = [0u64; 64];
+    let mut a = [0u64; BRIEF_SLIPS];
+    let mut b = [0u64; BRIEF_ROWS];
     check_beside(message, &mut a, &mut b, slips, rows)
 }
 
-// The check of a short message, with room for 200 transactions.
+// The check of a short message.
 fn check_short(message: &[u8], slips: &mut [u64], rows: &mut [u64]) -> Checked
     ensures { λ r. ⌜ Checks (now (message .entry)) (now (slips .entry)) (now (rows .entry)) (said r) (now (slips .exit)) (now (rows .exit)) ⌝ }
 {
-    let mut a = [0u64; 2400];
-    let mut b = [0u64; 512];
+    let mut a = [0u64; SHORT_SLIPS];
+    let mut b = [0u64; Profile::ROWS];
     check_beside(message, &mut a, &mut b, slips, rows)
 }
 
@@ -83,8 +93,8 @@ fn check_short(message: &[u8], slips: &mut [u64], rows: &mut [u64]) -> Checked
 fn check_long(message: &[u8], slips: &mut [u64], rows: &mut [u64]) -> Checked
     ensures { λ r. ⌜ Checks (now (message .entry)) (now (slips .entry)) (now (rows .entry)) (said r) (now (slips .exit)) (now (rows .exit)) ⌝ }
 {
-    let mut a = [0u64; 24000];
-    let mut b = [0u64; 512];
+    let mut a = [0u64; Profile::SLIPS];
+    let mut b = [0u64; Profile::ROWS];
     check_beside(message, &mut a, &mut b, slips, rows)
 }
 

@@ -33,13 +33,14 @@ pub fn judge_list(list: &[u8], ceiling: u64) -> JudgedList
             if lines < 2 {
                 return JudgedList::Refused(ListRefusal::NoCollection(lines));
             }
-            if 1 + profile::Profile::COLLECTIONS < lines {
+            if profile::Profile::LINES < lines {
                 return JudgedList::Refused(ListRefusal::TooManyCollections);
             }
             if let JudgedList::Refused(refusal) = stages::judge_values(list) {
                 return JudgedList::Refused(refusal);
             }
-            JudgedList::Good(lines - 1)
+            let collections = lines - 1;
+            JudgedList::Good(collections)
         }
         JudgedList::Refused(refusal) => JudgedList::Refused(refusal),
     }

@@ -11,6 +11,7 @@ ghost use Rattle.bundle.specs.Labels.{needOf, labelsOf};
 ghost use Rattle.listed.specs.Listed.{collectionOf, termsNumber, numbersOf};
 use frames::Field;
 use frames::hex;
+use profile::Profile;
 use text::Judged;
 use text::Rule;
 
@@ -86,7 +87,7 @@ pub fn label(list: &[u8], ceiling: u64, table: &mut [usize], labels: &mut [u64])
     ensures { λ _. ⌜ now (table .exit) ≡ starts (now (list .entry)) ⌝ }
     ensures { λ _. ⌜ now (labels .exit) ≡ labelsOf ceiling (numbersOf (now (list .entry))) ⌝ }
 {
-    let mut numbers = [0u64; 1000];
+    let mut numbers = [0u64; Profile::COLLECTIONS];
     let collections = labels.len();
     label_in(list, ceiling, table, &mut numbers[..collections], labels)
 }

@@ -11,6 +11,7 @@ use prints::print;
 use prints::print_number;
 use prints::print_refused;
 use profile::ListRefusal;
+use profile::Profile;
 
 // ─── a list ───
 
@@ -54,8 +55,8 @@ fn print_labels(list: &[u8], ceiling: u64, table: &mut [usize], labels: &mut [u6
 fn print_good(list: &[u8], ceiling: u64, collections: usize)
     requires { ⌜ judgedList (now list) ceiling ≡ Good collections ⌝ }
 {
-    let mut table = [0usize; 1001];
-    let mut labels = [0u64; 1000];
+    let mut table = [0usize; Profile::LINES];
+    let mut labels = [0u64; Profile::COLLECTIONS];
     let lines = collections + 1;
     print_labels(
         list,

@@ -162,8 +162,23 @@ impl Profile {
     // The most collections of a day list.
     pub const COLLECTIONS: usize = 1000;
 
+    // The most lines of a day list: the creditor's, and one for each collection.
+    pub const LINES: usize = Profile::COLLECTIONS + 1;
+
     // The highest ceiling: the most collections of a batch that a caller may ask for.
     pub const CEILING: u64 = 500;
+
+    // The numbers of a slip.
+    pub const SLIP: usize = 12;
+
+    // The numbers of a batch's row.
+    pub const ROW: usize = 8;
+
+    // The numbers of a slip table that holds every message.
+    pub const SLIPS: usize = Profile::SLIP * Profile::TRANSACTIONS as usize;
+
+    // The numbers of a batch table that holds every message.
+    pub const ROWS: usize = Profile::ROW * Profile::BATCHES as usize;
 
     // The limits are those of document 01.
     pub fn limits() -> Limits
@@ -279,8 +294,8 @@ pub enum ListRefusal {
 }
 
 impl ListRefusal {
-    // The line of the first collection that is one too many: behind the creditor line and a thousand collections.
-    pub const FIRST_TOO_MANY: usize = 1002;
+    // The line of the first collection that is one too many: behind the creditor line and the most collections.
+    pub const FIRST_TOO_MANY: usize = Profile::COLLECTIONS + 2;
 
     // Document 01's number.
     pub fn number(self) -> u64

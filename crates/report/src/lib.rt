@@ -5,6 +5,7 @@ use answer::Checked;
 use prints::print;
 use prints::print_number;
 use prints::print_refused;
+use profile::Profile;
 use profile::Refusal;
 use profile::Totals;
 
@@ -35,12 +36,12 @@ fn print_batches(batches: u64, rows: &[u64]) {
     let mut k = 0;
     let mut at = 0;
     while k < batches {
-        if rows.len() - at < 8 {
+        if rows.len() - at < Profile::ROW {
             return;
         }
         k += 1;
-        print_batch(k, &rows[at..at + 8]);
-        at += 8;
+        print_batch(k, &rows[at..at + Profile::ROW]);
+        at += Profile::ROW;
     }
 }
 
@@ -70,7 +71,7 @@ pub fn print_checked(message: &[u8], slips: &mut [u64], rows: &mut [u64]) {
 
 // The check of a message. The tables have room for every message that the profile allows.
 pub fn print_check(message: &[u8]) {
-    let mut slips = [0u64; 24000];
-    let mut rows = [0u64; 512];
+    let mut slips = [0u64; Profile::SLIPS];
+    let mut rows = [0u64; Profile::ROWS];
     print_checked(message, &mut slips, &mut rows);
 }

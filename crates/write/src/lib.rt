@@ -16,6 +16,7 @@ ghost use Rattle.batched.specs.Ready.{Batches, batchesFrom};
 ghost use Rattle.write.specs.Write.{fitted, after, answerFor, outputFor};
 use daylist::JudgedList;
 use profile::ListRefusal;
+use profile::Profile;
 
 pub mod message;
 
@@ -62,7 +63,7 @@ fn write_labelled(
     ensures { λ r. ⌜ r ≡ fitted (messageBytes (creditorOf (unhex (now (line .entry)))) (batchesFrom 0 batches (now (labels .entry)) (listed (now (list .entry))))) (length (now (out .entry))) ⌝ }
     ensures { λ r. ⌜ now (out .exit) ≡ after r (messageBytes (creditorOf (unhex (now (line .entry)))) (batchesFrom 0 batches (now (labels .entry)) (listed (now (list .entry))))) (now (out .entry)) ⌝ }
 {
-    if profile::Profile::BYTES <= out.len() {
+    if Profile::BYTES <= out.len() {
         return Written::Length(message::put_message(out, line, list, table, labels, batches));
     }
     write_measured(line, list, table, labels, batches, out)
@@ -82,7 +83,7 @@ fn write_in(
     ensures { λ _. ⌜ now (out .exit) ≡ outputFor (now (list .entry)) ceiling (now (out .entry)) ⌝ }
 {
     let batches = listed::label(list, ceiling, table, labels);
-    if profile::Profile::BATCHES < batches {
+    if Profile::BATCHES < batches {
         return Written::Refused(ListRefusal::TooManyBatches(batches as usize));
     }
     let end = frames::lines::line_length(list);
@@ -95,8 +96,8 @@ fn write_good(list: &[u8], ceiling: u64, collections: usize, out: &mut [u8]) -> 
     ensures { λ r. ⌜ r ≡ answerFor (now (list .entry)) ceiling (length (now (out .entry))) ⌝ }
     ensures { λ _. ⌜ now (out .exit) ≡ outputFor (now (list .entry)) ceiling (now (out .entry)) ⌝ }
 {
-    let mut table = [0usize; 1001];
-    let mut labels = [0u64; 1000];
+    let mut table = [0usize; Profile::LINES];
+    let mut labels = [0u64; Profile::COLLECTIONS];
     write_in(
         list,
         ceiling,

@@ -4,6 +4,7 @@ ghost use mathlib.Core.Bool.{true};
 ghost use Prim.Native.Nat.{_+_, _*_, _≤_, _<_, _^_};
 ghost use lib.Dec.{eqb};
 ghost use lib.ListN.{length};
+ghost use Rattle.profile.specs.Limits.{mostBatches, mostCollections};
 ghost use Rattle.bundle.specs.Labels.{pick, upTo};
 ghost use Rattle.laws.specs.Lists.{total, count};
 ghost use Rattle.frames.specs.Hex.{unhex};
@@ -11,13 +12,13 @@ ghost use Rattle.frames.specs.Frames.{framed, creditor};
 ghost use Rattle.put.specs.Wrote.{Wrote};
 ghost use Rattle.listed.specs.Listed.{listed, creditorOf};
 ghost use Rattle.written.specs.Pieces.{batchesBytes, messageBytes};
-ghost use Rattle.batched.specs.Ready.{Ready, Batches, batchesFrom};
+ghost use Rattle.batched.specs.Ready.{Ready, Batches, batchRoom, batchesFrom};
 use profile::ControlSum;
 use profile::NumberOfTransactions;
 
 // How many collections the batches have.
 fn count_all(labels: &[u64], batches: u64) -> NumberOfTransactions
-    requires { ⌜ (length (now labels) ≤ 1000) × (batches ≤ 64) ⌝ }
+    requires { ⌜ (length (now labels) ≤ mostCollections) × (batches ≤ mostBatches) ⌝ }
     ensures { λ r. ⌜ r .0 ≡ total (λ k. count (eqb k) (now (labels .entry))) (upTo batches) ⌝ }
 {
     let mut sum: u64 = 0;
@@ -32,7 +33,7 @@ fn count_all(labels: &[u64], batches: u64) -> NumberOfTransactions
 // Their cents.
 fn cents_all(list: &[u8], table: &[usize], labels: &[u64], batches: u64) -> ControlSum
     requires { ⌜ Ready (now list) (now table) (now labels) ⌝ }
-    requires { ⌜ batches ≤ 64 ⌝ }
+    requires { ⌜ batches ≤ mostBatches ⌝ }
     ensures { λ r. ⌜ r .0 ≡ total (λ k. total (λ x. x .cents) (pick k (now (labels .entry)) (listed (now (list .entry))))) (upTo batches) ⌝ }
 {
     let mut sum: u64 = 0;
@@ -56,9 +57,9 @@ fn put_batches(
 ) -> usize
     requires { ⌜ framed creditor (unhex (now line)) ≡ true ⌝ }
     requires { ⌜ Batches (now list) (now table) (now labels) batches ⌝ }
-    requires { ⌜ at + 2303000 * 64 < 2 ^ 32 ⌝ }
+    requires { ⌜ at + batchRoom * mostBatches < 2 ^ 32 ⌝ }
     ensures { λ r. ⌜ Wrote (now (out .entry)) (now (out .exit)) at r (batchesBytes (creditorOf (unhex (now (line .entry)))) 1 (batchesFrom 0 batches (now (labels .entry)) (listed (now (list .entry))))) ⌝ }
-    ensures { λ r. ⌜ r ≤ at + 2303000 * 64 ⌝ }
+    ensures { λ r. ⌜ r ≤ at + batchRoom * mostBatches ⌝ }
 {
     let mut to = at;
     let mut k = 0;

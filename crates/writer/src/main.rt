@@ -6,7 +6,11 @@ use libc::STDIN_FILENO;
 use prints::print;
 use prints::print_refused;
 use profile::ListRefusal;
+use profile::Profile;
 use write::Written;
+
+// The most bytes of a list, and of a message.
+const MOST: usize = 65536;
 
 // ─── the message ───
 
@@ -28,7 +32,7 @@ fn print_front(out: &[u8], length: usize) {
 }
 
 fn print_written(list: &[u8], ceiling: u64) {
-    let mut out = [0u8; 65536];
+    let mut out = [0u8; MOST];
     match write::write(list, ceiling, &mut out) {
         Written::Length(length) => print_front(&out, length),
         Written::Refused(refusal) => print_refusal(refusal),
@@ -42,7 +46,7 @@ fn spelled(digits: &[u8]) -> u64 {
     let mut v: u64 = 0;
     let mut i = 0;
     while i < digits.len() {
-        if v < 1000 {
+        if v <= Profile::CEILING {
             v = v * 10 + marks::wide(frames::hex::hex_value(digits[i]));
         }
         i += 1;
@@ -65,9 +69,9 @@ fn print_list(list: &[u8]) {
 }
 
 fn main() {
-    let mut list = [0u8; 65537];
+    let mut list = [0u8; MOST + 1];
     let n = io::read_full(STDIN_FILENO, &mut list);
-    if 65536 < n {
+    if MOST < n {
         print(b"TOO LONG\n");
         return;
     }

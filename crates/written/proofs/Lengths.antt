@@ -75,7 +75,7 @@ date-length [] h = omega arith
 date-length (x ∷ xs) h = date-short (x .terms .date) (h .0 .terms .date) .most
 
 module _ (cr : Creditor) (k : GoodCreditor cr) where
-  pub head-length : (n : ℕ) (xs : List Collection) → All GoodCollection xs → length xs ≤ 1_000 → length (headBytes cr n xs) ≤ 696
+  pub head-length : (n : ℕ) (xs : List Collection) → All GoodCollection xs → length xs ≤ mostCollections → length (headBytes cr n xs) ≤ 696
   unfolding headBytes
   head-length n xs h l =
       simp length-append (omega (
@@ -91,11 +91,11 @@ module _ (cr : Creditor) (k : GoodCreditor cr) where
         creditor-identifier-short (cr .identifier) (k .identifier) .most,
       ))
 
-  pub batch-length : (n : ℕ) (xs : List Collection) → All GoodCollection xs → length xs ≤ 1_000 → length (batchBytes cr n xs) ≤ 705 + length xs * 700
+  pub batch-length : (n : ℕ) (xs : List Collection) → All GoodCollection xs → length xs ≤ mostCollections → length (batchBytes cr n xs) ≤ 705 + length xs * 700
   unfolding batchBytes
   batch-length n xs h l = simp length-append (omega (arith, head-length n xs h l, transactions-length xs h))
 
-  batches-length : (n : ℕ) (bs : List (List Collection)) → All (All GoodCollection) bs → length (concat bs) ≤ 1_000 → length (batchesBytes cr n bs) ≤ length bs * 705 + length (concat bs) * 700
+  batches-length : (n : ℕ) (bs : List (List Collection)) → All (All GoodCollection) bs → length (concat bs) ≤ mostCollections → length (batchesBytes cr n bs) ≤ length bs * 705 + length (concat bs) * 700
   batches-length n [] h l = omega arith
   batches-length n (b ∷ bs) h l =
       let e : length (b ++ concat bs) ≡ length b + length (concat bs) = length-append b (concat bs) in
@@ -103,7 +103,7 @@ module _ (cr : Creditor) (k : GoodCreditor cr) where
 
   -- ─── the message ───
 
-  opening-length : (n sum : ℕ) → n ≤ 1_000 → sum < 10 ^ 14 → length (openingBytes cr n sum) ≤ 384
+  opening-length : (n sum : ℕ) → n ≤ mostCollections → sum < 10 ^ 14 → length (openingBytes cr n sum) ≤ 384
   unfolding openingBytes
   opening-length n sum l h =
       simp length-append (omega (

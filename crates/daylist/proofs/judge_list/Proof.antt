@@ -38,9 +38,6 @@ enum-known-lines c = search needs
 returns-4 : tie.Need-returns-4
 returns-4 c = sym (limits (c .before .before .before .before .before) ∙ lines-few (lines (list (c .before .before .before .before .before))) (c .before .before .lines .given .0 .0) (framed (c .before .before)) (c .if4 .taken))
 
-add-if5 : tie.Need-add-if5
-add-if5 c = search needs
-
 returns-5 : tie.Need-returns-5
 returns-5 c = sym (limits (c .before .before .before .before .before .before) ∙ lines-many (lines (list (c .before .before .before .before .before .before))) (c .before .before .before .lines .given .0 .0) (framed (c .before .before .before)) (c .before .if4 .left) (c .if5 .taken))
 
@@ -58,8 +55,8 @@ returns-6 c =
 enum-told : tie.Need-enum-told
 enum-told c = search needs
 
-sub-t15 : tie.Need-sub-t15
-sub-t15 c = search needs
+sub-collections : tie.Need-sub-collections
+sub-collections c = search needs
 
 enum-known-refusal-2 : tie.Need-enum-known-refusal-2
 enum-known-refusal-2 c = search needs
@@ -82,13 +79,12 @@ judge-list-spec =
     judge-frames-requires
     enum-known-lines
     returns-4
-    add-if5
     returns-5
     judge-values-requires
     enum-known-refusal
     returns-6
     enum-told
-    sub-t15
+    sub-collections
     enum-known-refusal-2
     returns-7
     returns-8)

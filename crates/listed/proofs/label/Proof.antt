@@ -1,5 +1,6 @@
--- `listed::label` meets its contract. There are at most 1,000 collections, so the numbers have room.
+-- `listed::label` meets its contract. A good list has at most so many collections, so the numbers have room.
 use Rattle.daylist.proofs.Goods.{good-list}
+use Rattle.profile.specs.Limits.{mostCollections}
 use Prim.Native.Nat.{_≤_}
 use lib.ListN.{length}
 use lib.Seq.{length-take-le}
@@ -9,7 +10,7 @@ use Rattle.listed.proofs.label.Statement.{statement}
 use Rattle.listed.proofs.label.Tie as tie
 
 -- there is room
-few : (c : tie.Start) → length (c .args .labels .now) ≤ 1000
+few : (c : tie.Start) → length (c .args .labels .now) ≤ mostCollections
 few c = good-list (c .args .list .now) (c .args .ceiling) (length (c .args .labels .now)) (c .pre .0) .few
 
 array-borrow-prefix-numbers : tie.Need-array-borrow-prefix-numbers

@@ -1,5 +1,6 @@
--- `lists::print_good` meets its contract. A good list has at most 1,000 collections, so both tables have room.
+-- `lists::print_good` meets its contract. A good list has at most so many collections, so both tables have room.
 use Rattle.daylist.proofs.Goods.{good-list}
+use Rattle.profile.specs.Limits.{mostCollections}
 use Rattle.daylist.specs.declared.JudgedList.the-variants.{Good}
 use Prim.Native.Nat.{ℕ, _+_, _≤_}
 use lib.Seq.{length-take-le}
@@ -10,10 +11,10 @@ use Rattle.lists.proofs.print_good.Statement.{statement}
 use Rattle.lists.proofs.print_good.Tie as tie
 
 -- there is room
-few : (c : tie.Start) → c .args .collections ≤ 1000
+few : (c : tie.Start) → c .args .collections ≤ mostCollections
 few c = good-list (c .args .list .now) (c .args .ceiling) (c .args .collections) (c .pre) .few
 
-more : (c : tie.Start) → c .args .collections + 1 ≤ 1001
+more : (c : tie.Start) → c .args .collections + 1 ≤ mostCollections + 1
 more c = omega (arith, few c)
 
 add-lines : tie.Need-add-lines

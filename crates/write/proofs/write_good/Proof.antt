@@ -1,5 +1,6 @@
--- `write::write_good` meets its contract. There are at most 1,000 collections, so the table and the labels have room.
-use Rattle.daylist.proofs.Goods.{GoodList, good-list}
+-- `write::write_good` meets its contract. A good list has at most so many collections, so the table and the labels have room.
+use Rattle.daylist.proofs.Goods.{good-list}
+use Rattle.profile.specs.Limits.{mostCollections}
 use Rattle.daylist.specs.declared.JudgedList.the-variants.{Good}
 use lib.Seq.{length-take-le}
 use mathlib.Core.Path.{sym, ap, _∙_}
@@ -10,10 +11,10 @@ use Rattle.write.proofs.write_good.Statement.{statement}
 use Rattle.write.proofs.write_good.Tie as tie
 
 -- there is room
-few : (c : tie.Start) → c .args .collections ≤ 1_000
+few : (c : tie.Start) → c .args .collections ≤ mostCollections
 few c = good-list (c .args .list .now) (c .args .ceiling) (c .args .collections) (c .pre) .few
 
-more : (c : tie.Start) → c .args .collections + 1 ≤ 1_001
+more : (c : tie.Start) → c .args .collections + 1 ≤ mostCollections + 1
 more c = omega (arith, few c)
 
 add-table : tie.Need-add-table

@@ -1,4 +1,4 @@
--- `writer::spelled` meets its contract: the number is below 1,000 where a digit is added, and the digits left get fewer.
+-- `writer::spelled` meets its contract: the number is no more than a ceiling may be where a digit is added, and the digits left get fewer.
 use Prim.Native.Nat.{_≤_, _-_}
 use lib.ListN.{length}
 use borrow.Author.Needs.{needs}

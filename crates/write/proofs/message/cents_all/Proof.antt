@@ -3,7 +3,7 @@ use Rattle.write.proofs.Rounds.{Tallied, tallied-start, tallied-on, tal
 use Rattle.laws.specs.Lists.{total}
 use Rattle.bundle.specs.Labels.{pick}
 use Rattle.listed.specs.Listed.{listed}
-use Rattle.profile.specs.Limits.{mostCents}
+use Rattle.profile.specs.Limits.{mostCents, mostCollections}
 use Prim.Native.Nat.{_-_, _*_, _≤_}
 use native.Mathlib.Omega.{arith}
 use borrow.Author.Needs.{needs}
@@ -11,13 +11,13 @@ use Rattle.write.proofs.message.cents_all.Statement.{statement}
 use Rattle.write.proofs.message.cents_all.Tie as tie
 
 abbrev Inv-loop : tie.InvT-loop
-Inv-loop list table labels batches sum₀ k₀ sum k = Tallied (λ k. total (λ x. x .cents) (pick k labels (listed list))) (mostCents * 1_000) batches k sum
+Inv-loop list table labels batches sum₀ k₀ sum k = Tallied (λ k. total (λ x. x .cents) (pick k labels (listed list))) (mostCents * mostCollections) batches k sum
 
 abbrev μ-loop : tie.MeasureT-loop
 μ-loop list table labels batches sum₀ k₀ sum k = batches - k
 
 -- a batch comes to no more than all collections could
-few : (c : tie.After-cents-of Inv-loop μ-loop) → c .cents-of .result .0 ≤ mostCents * 1_000
+few : (c : tie.After-cents-of Inv-loop μ-loop) → c .cents-of .result .0 ≤ mostCents * mostCollections
 few c = omega (arith, c .cents-of .ensures .1, c .before .before .before .before .before .before .pre .0 .few)
 
 loop-holds : tie.Need-loop-holds Inv-loop μ-loop

@@ -1,5 +1,6 @@
 -- `write::message::count_all` meets its contract. The invariant: what the batches before k have.
 use Rattle.write.proofs.Rounds.{Tallied, tallied-start, tallied-on, tallied-end}
+use Rattle.profile.specs.Limits.{mostCollections}
 use Rattle.laws.specs.Lists.{count}
 use Rattle.laws.proofs.Counts.{count-le-length}
 use lib.Dec.{eqb}
@@ -10,13 +11,13 @@ use Rattle.write.proofs.message.count_all.Statement.{statement}
 use Rattle.write.proofs.message.count_all.Tie as tie
 
 abbrev Inv-loop : tie.InvT-loop
-Inv-loop labels batches sum₀ k₀ sum k = Tallied (λ k. count (eqb k) labels) 1_000 batches k sum
+Inv-loop labels batches sum₀ k₀ sum k = Tallied (λ k. count (eqb k) labels) mostCollections batches k sum
 
 abbrev μ-loop : tie.MeasureT-loop
 μ-loop labels batches sum₀ k₀ sum k = batches - k
 
 -- a batch has no more than there are
-few : (c : tie.After-count-of Inv-loop μ-loop) → c .count-of .result .0 ≤ 1_000
+few : (c : tie.After-count-of Inv-loop μ-loop) → c .count-of .result .0 ≤ mostCollections
 few c = omega (arith, c .count-of .ensures, count-le-length (eqb (c .before .before .loop .k)) (c .before .before .before .before .args .labels .now), c .before .before .before .before .pre .0)
 
 loop-holds : tie.Need-loop-holds Inv-loop μ-loop

@@ -1,7 +1,7 @@
 -- `write::message::put_batches` meets its contract. The invariant: what is written, with the batches from k on behind it, is all of them.
 use Rattle.write.proofs.Rounds.{batches-go, batches-end, batches-all}
 use Rattle.batched.proofs.Going.{Going, going-start, going-on, going-end}
-use Rattle.batched.specs.Ready.{batchesFrom}
+use Rattle.batched.specs.Ready.{batchRoom, batchesFrom}
 use Rattle.frames.specs.Hex.{unhex}
 use Rattle.listed.specs.Listed.{listed, creditorOf}
 use Rattle.written.specs.Pieces.{batchesBytes}
@@ -16,7 +16,7 @@ use Rattle.write.proofs.message.put_batches.Tie as tie
 abbrev Inv-loop : tie.InvT-loop
 Inv-loop out₀ at line list table labels batches to₀ k₀ out to k =
     (k ≤ batches)
-    × (to ≤ at + 2_303_000 * k)
+    × (to ≤ at + batchRoom * k)
     × Going out₀ at (batchesBytes (creditorOf (unhex line)) 1 (batchesFrom 0 batches labels (listed list))) out to
     (batchesBytes (creditorOf (unhex line)) (k + 1) (batchesFrom k (batches - k) labels (listed list)))
 
