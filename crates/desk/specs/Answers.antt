@@ -1,16 +1,14 @@
 -- WHAT THE FUNCTIONS OF THE DESK ANSWER, in numbers. To be believed; definitions only.
 --   checkedNumbers v         number 0 and the totals of an accepted message; the number and place of a refusal, and totals 0
---   writtenNumbers r         number 0 and the length of a written message; the number and place of a refusal
+--   writtenNumbers a         number 0 and the length of a written message; the number and place of a refusal
 --   DeskChecks s slips rows r slips′ rows′   the check's promise (checked/specs/Check), its answer told in numbers
 use Prim.Native.Nat.{ℕ}
 use mathlib.Core.List.{List}
 use mathlib.Core.Path.{_≡_}
 use Rattle.laws.specs.Bytes.{Bytes}
-use Rattle.profile.specs.Refusals.{listNumberOf, listPlaceOf}
 use Rattle.message.specs.Verdict.{Verdict, Verdict.accepted, Verdict.refused}
 use Rattle.checked.specs.Check.{Checks}
-use Rattle.write.specs.declared.Written.{Written}
-use Rattle.write.specs.declared.Written.the-variants.{Length, Refused}
+use Rattle.write.specs.Write.{Answer, Answer.success, Answer.refused as unwritten}
 use Rattle.desk.specs.declared.DeskChecked.{DeskChecked}
 use Rattle.desk.specs.declared.DeskWritten.{DeskWritten}
 
@@ -23,6 +21,6 @@ pub record DeskChecks (s : Bytes) (slips rows : List ℕ) (r : DeskChecked) (sli
   pub checks : Checks s slips rows verdict slips′ rows′
   pub numbers : r ≡ checkedNumbers verdict
 
-abbrev pub writtenNumbers : Written → DeskWritten
-writtenNumbers (Length n) = record { number = 0; place = n }
-writtenNumbers (Refused f) = record { number = listNumberOf f; place = listPlaceOf f }
+abbrev pub writtenNumbers : Answer → DeskWritten
+writtenNumbers (success n) = record { number = 0; place = n }
+writtenNumbers (unwritten f) = record { number = f .number; place = f .place }

@@ -2,7 +2,7 @@
 ghost use mathlib.Core.Path.{_≡_};
 ghost use lib.ListN.{length};
 ghost use Rattle.answer.specs.Said.{said};
-ghost use Rattle.write.specs.Write.{answerFor, outputFor};
+ghost use Rattle.write.specs.Write.{answered, answerFor, outputFor};
 ghost use Rattle.desk.specs.Answers.{checkedNumbers, DeskChecks, writtenNumbers};
 use answer::Checked;
 use write::Written;
@@ -60,7 +60,7 @@ pub struct DeskWritten {
 
 // The answer in numbers.
 fn written_numbers(written: Written) -> DeskWritten
-    ensures { λ r. ⌜ r ≡ writtenNumbers written ⌝ }
+    ensures { λ r. ⌜ r ≡ writtenNumbers (answered written) ⌝ }
 {
     match written {
         Written::Length(length) => DeskWritten {

@@ -13,7 +13,7 @@ ghost use Rattle.daylist.specs.declared.JudgedList.the-variants.{Good};
 ghost use Rattle.listed.specs.Listed.{listed, creditorOf};
 ghost use Rattle.written.specs.Pieces.{messageBytes};
 ghost use Rattle.batched.specs.Ready.{Batches, batchesFrom};
-ghost use Rattle.write.specs.Write.{fitted, after, answerFor, outputFor};
+ghost use Rattle.write.specs.Write.{answered, fitted, after, answerFor, outputFor};
 use daylist::JudgedList;
 use profile::ListRefusal;
 use profile::Profile;
@@ -37,8 +37,8 @@ fn write_measured(
 ) -> Written
     requires { ⌜ framed creditor (unhex (now line)) ≡ true ⌝ }
     requires { ⌜ Batches (now list) (now table) (now labels) batches ⌝ }
-    ensures { λ r. ⌜ r ≡ fitted (messageBytes (creditorOf (unhex (now (line .entry)))) (batchesFrom 0 batches (now (labels .entry)) (listed (now (list .entry))))) (length (now (out .entry))) ⌝ }
-    ensures { λ r. ⌜ now (out .exit) ≡ after r (messageBytes (creditorOf (unhex (now (line .entry)))) (batchesFrom 0 batches (now (labels .entry)) (listed (now (list .entry))))) (now (out .entry)) ⌝ }
+    ensures { λ r. ⌜ answered r ≡ fitted (messageBytes (creditorOf (unhex (now (line .entry)))) (batchesFrom 0 batches (now (labels .entry)) (listed (now (list .entry))))) (length (now (out .entry))) ⌝ }
+    ensures { λ r. ⌜ now (out .exit) ≡ after (answered r) (messageBytes (creditorOf (unhex (now (line .entry)))) (batchesFrom 0 batches (now (labels .entry)) (listed (now (list .entry))))) (now (out .entry)) ⌝ }
 {
     let length = message::put_message(&mut out[..0], line, list, table, labels, batches);
     if out.len() < length {
@@ -60,8 +60,8 @@ fn write_labelled(
     requires { ⌜ framed creditor (unhex (now line)) ≡ true ⌝ }
     requires { ⌜ Batches (now list) (now table) (now labels) batches ⌝ }
     requires { ⌜ length (messageBytes (creditorOf (unhex (now line))) (batchesFrom 0 batches (now labels) (listed (now list)))) ≤ mostBytes ⌝ }
-    ensures { λ r. ⌜ r ≡ fitted (messageBytes (creditorOf (unhex (now (line .entry)))) (batchesFrom 0 batches (now (labels .entry)) (listed (now (list .entry))))) (length (now (out .entry))) ⌝ }
-    ensures { λ r. ⌜ now (out .exit) ≡ after r (messageBytes (creditorOf (unhex (now (line .entry)))) (batchesFrom 0 batches (now (labels .entry)) (listed (now (list .entry))))) (now (out .entry)) ⌝ }
+    ensures { λ r. ⌜ answered r ≡ fitted (messageBytes (creditorOf (unhex (now (line .entry)))) (batchesFrom 0 batches (now (labels .entry)) (listed (now (list .entry))))) (length (now (out .entry))) ⌝ }
+    ensures { λ r. ⌜ now (out .exit) ≡ after (answered r) (messageBytes (creditorOf (unhex (now (line .entry)))) (batchesFrom 0 batches (now (labels .entry)) (listed (now (list .entry))))) (now (out .entry)) ⌝ }
 {
     if Profile::BYTES <= out.len() {
         return Written::Length(message::put_message(out, line, list, table, labels, batches));
@@ -79,7 +79,7 @@ fn write_in(
 ) -> Written
     requires { ⌜ judgedList (now list) ceiling ≡ Good (length (now labels)) ⌝ }
     requires { ⌜ length (now table) ≡ length (now labels) + 1 ⌝ }
-    ensures { λ r. ⌜ r ≡ answerFor (now (list .entry)) ceiling (length (now (out .entry))) ⌝ }
+    ensures { λ r. ⌜ answered r ≡ answerFor (now (list .entry)) ceiling (length (now (out .entry))) ⌝ }
     ensures { λ _. ⌜ now (out .exit) ≡ outputFor (now (list .entry)) ceiling (now (out .entry)) ⌝ }
 {
     let batches = listed::label(list, ceiling, table, labels);
@@ -93,7 +93,7 @@ fn write_in(
 // The message of a list of so many collections that is judged good.
 fn write_good(list: &[u8], ceiling: u64, collections: usize, out: &mut [u8]) -> Written
     requires { ⌜ judgedList (now list) ceiling ≡ Good collections ⌝ }
-    ensures { λ r. ⌜ r ≡ answerFor (now (list .entry)) ceiling (length (now (out .entry))) ⌝ }
+    ensures { λ r. ⌜ answered r ≡ answerFor (now (list .entry)) ceiling (length (now (out .entry))) ⌝ }
     ensures { λ _. ⌜ now (out .exit) ≡ outputFor (now (list .entry)) ceiling (now (out .entry)) ⌝ }
 {
     let mut table = [0usize; Profile::LINES];
@@ -110,7 +110,7 @@ fn write_good(list: &[u8], ceiling: u64, collections: usize, out: &mut [u8]) -> 
 // Writes the message for the list at the ceiling, and answers its length; or refuses, with the first of 21 to 28 that is met, and writes no byte.
 // Bytes of the output beyond the message stay.
 pub fn write(list: &[u8], ceiling: u64, out: &mut [u8]) -> Written
-    ensures { λ r. ⌜ r ≡ answerFor (now (list .entry)) ceiling (length (now (out .entry))) ⌝ }
+    ensures { λ r. ⌜ answered r ≡ answerFor (now (list .entry)) ceiling (length (now (out .entry))) ⌝ }
     ensures { λ _. ⌜ now (out .exit) ≡ outputFor (now (list .entry)) ceiling (now (out .entry)) ⌝ }
 {
     match daylist::judge_list(list, ceiling) {

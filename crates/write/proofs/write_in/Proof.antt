@@ -1,5 +1,6 @@
 -- `write::write_in` meets its contract. A good list, with its table and its labels, has all that its writers ask.
 use Rattle.write.proofs.Answers.{answered-many, answered-good}
+use Rattle.write.specs.Write.{answered}
 use Rattle.listed.proofs.Found.{creditor-framed}
 use Rattle.write.proofs.Readies.{batches-ready, written-is, written-short}
 use Rattle.batched.specs.Ready.{batchesFrom}
@@ -68,7 +69,7 @@ returns-2 c =
     let bs = batchesFrom 0 (l .result) (c .before .before .before .before .before .before .before .before .before .before .before .before .before .label .last .1 .1 .1 .0) (listed s) in
     let e = ap (λ (k : ℕ). messageBytes (creditorOf (unhex (take k s))) bs) (c .before .before .before .before .before .before .before .line-length .ensures) ∙ written-is (c .before .before .before .before .before .before .before .before .before .before .before .before .before .before .before .before .before .before .before .before .args .list .now) (c .before .before .before .before .before .before .before .before .before .before .before .before .before .before .before .before .before .before .before .before .args .ceiling) (length (c .before .before .before .before .before .before .before .before .before .before .before .before .before .before .before .before .before .before .before .before .args .labels .now)) (c .before .before .before .before .before .before .before .before .before .before .before .before .before .before .before .before .before .before .before .before .pre .0) (c .before .before .before .before .before .before .before .before .before .before .before .before .before .label .last .1 .1 .0) (c .before .before .before .before .before .before .before .before .before .before .before .before .before .label .last .1 .1 .1 .0) (l .ensures .1 .0) v (l .ensures .1 .1) (l .result) (l .ensures .0) in
     let n = need-by-number (c .before .before .before .before .before .before .before .before .before .before .before .before .before .before .before .before .before .before .before .before .args .list .now) (c .before .before .before .before .before .before .before .before .before .before .before .before .before .before .before .before .before .before .before .before .args .ceiling) (length (c .before .before .before .before .before .before .before .before .before .before .before .before .before .before .before .before .before .before .before .before .args .labels .now)) (c .before .before .before .before .before .before .before .before .before .before .before .before .before .before .before .before .before .before .before .before .pre .0) in
-    answered-good (x .args .list .now) (x .args .ceiling) (x .args .out .now) (length (x .args .labels .now)) (x .pre .0) _ (w .result) (w .last .1 .1 .1 .1 .1 .0) e
+    answered-good (x .args .list .now) (x .args .ceiling) (x .args .out .now) (length (x .args .labels .now)) (x .pre .0) _ (answered (w .result)) (w .last .1 .1 .1 .1 .1 .0) e
     (omega (arith, l .ensures .0, n, c .before .before .before .before .before .before .before .before .if1 .left)) (w .ensures .0) (w .ensures .1)
 
 pub write-in-spec : {M : Type 1} → statement M
