@@ -1,4 +1,4 @@
--- THE LABELS: the number of each collection's batch, from 0, which is what the code writes. To be believed; definitions only.
+-- THE LABELS: the number of each collection's batch, from 0, which is what the code writes. Not to be believed: no promise to a caller speaks of them.
 -- That batch n of `bundle` is the collections with the label n, in list order, is `by-label`; that codes serve for terms is `batch-by-code`.
 --   codes terms eq xs              a number for the terms of each collection: the place of the first one with equal terms
 --   sizeOf eq c ks k               how many batches the terms k need, where the collections have the terms ks

@@ -1,4 +1,4 @@
--- THE LIMITS of a day list, which are the profile's. To be believed; definitions only.
+-- THE LIMITS of a day list, which are the profile's, as bundling asks for them. Not to be believed: no promise to a caller speaks of them.
 --   Within n c   n collections at the ceiling c are within them, and the ceiling is at least 1
 use Prim.Native.Nat.{ℕ, _≤_}
 use Rattle.profile.specs.Limits.{mostCollections, mostCeiling}

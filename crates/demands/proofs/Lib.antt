@@ -1,4 +1,6 @@
--- Checks   demands 1 and 2, of a check        Writes   demands 1 to 3, of what the writer answers and leaves        Hold   the three demands hold
+-- Checks   demands 1 and 2, of a check        Writes   demands 1 to 3, of what the writer answers and leaves
+-- Hold     the three demands hold              Cases    the check's definitions at work on the message of the examples
 pub mod Checks
 pub mod Writes
 pub mod Hold
+pub mod Cases

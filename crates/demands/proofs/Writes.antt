@@ -16,7 +16,7 @@ use Rattle.laws.specs.Put.{putAt}
 use Rattle.laws.proofs.Counts.{All-map}
 use Rattle.profile.specs.Limits.{mostBytes, mostBatches}
 use Rattle.profile.specs.declared.Totals.{Totals}
-use Rattle.profile.specs.declared.ListRefusal.the-variants.{TooManyBatches, OutputTooShort}
+use Rattle.profile.specs.Refusals.{fault}
 use Rattle.tree.specs.Form.{Message}
 use Rattle.tree.specs.Pain008.{Document}
 use Rattle.message.specs.Verdict.{Verdict, Verdict.accepted}
@@ -34,9 +34,7 @@ use Rattle.listed.specs.Listed.{Collection, sameTerms, listed}
 use Rattle.listed.proofs.Terms.{terms-decide}
 use Rattle.listed.proofs.Goods.{good-number}
 use Rattle.written.specs.Written.{batchesFor, messageFor, written}
-use Rattle.write.specs.declared.Written.{Written}
-use Rattle.write.specs.declared.Written.the-variants.{Length, Refused}
-use Rattle.write.specs.Write.{needed, fitted, bundled, judged, after, answerFor, outputFor}
+use Rattle.write.specs.Write.{Answer, Answer.success, Answer.refused, needed, fitted, bundled, judged, after, answerFor, outputFor}
 use Rattle.carries.specs.Carried.{carriedBy, CarriesList}
 use Rattle.carries.proofs.Lists.{list-carried, list-carries, list-fewest, list-refused, list-checked}
 use Rattle.desk.specs.declared.DeskChecked.{DeskChecked}
@@ -56,26 +54,26 @@ pub data Outcome (s : Bytes) (c : ℕ) (out : Bytes) (w : DeskWritten) (out′ :
 
 module _ (s : Bytes) (c : ℕ) (out : Bytes) where
   -- the outcome of an answer
-  abbrev Ends : Written → Type 0
+  abbrev Ends : Answer → Type 0
   Ends w = Outcome s c out (writtenNumbers w) (after w (written s c) out)
 
   fits : Dec (length (written s c) ≤ length out) → (n : ℕ) → judgedList s c ≡ Good n → needed s c ≤ mostBatches → Ends (fitted (written s c) (length out))
   fits (yes r) n e l =
-      let h : fitted (written s c) (length out) ≡ Length (length (written s c)) = rw (le-leb (length (written s c)) (length out) r, fitted) in
+      let h : fitted (written s c) (length out) ≡ success (length (written s c)) = rw (le-leb (length (written s c)) (length out) r, fitted) in
       subst Ends (sym h) (done n e l refl refl)
   fits (no r) n e l =
       let x : length out < length (written s c) = omega arith in
-      let h : fitted (written s c) (length out) ≡ Refused (OutputTooShort (length (written s c))) = rw (lt-leb (length (written s c)) (length out) x, fitted) in
+      let h : fitted (written s c) (length out) ≡ refused (fault 28 (length (written s c))) = rw (lt-leb (length (written s c)) (length out) x, fitted) in
       subst Ends (sym h) (long n e l x refl refl)
 
   bundles : Dec (needed s c ≤ mostBatches) → (n : ℕ) → judgedList s c ≡ Good n → Ends (bundled (needed s c) (fitted (written s c) (length out)))
   bundles (yes l) n e =
-      let w : Written = fitted (written s c) (length out) in
+      let w : Answer = fitted (written s c) (length out) in
       let h : bundled (needed s c) w ≡ w = rw (le-leb (needed s c) mostBatches l, bundled) in
       subst Ends (sym h) (fits (decLe (length (written s c)) (length out)) n e l)
   bundles (no l) n e =
       let x : mostBatches < needed s c = omega arith in
-      let h : bundled (needed s c) (fitted (written s c) (length out)) ≡ Refused (TooManyBatches (needed s c)) = rw (lt-leb (needed s c) mostBatches x, bundled) in
+      let h : bundled (needed s c) (fitted (written s c) (length out)) ≡ refused (fault 27 (needed s c)) = rw (lt-leb (needed s c) mostBatches x, bundled) in
       subst Ends (sym h) (many n e x refl refl)
 
   judges : (j : JudgedList) → judgedList s c ≡ j → Early j → Ends (judged j (bundled (needed s c) (fitted (written s c) (length out))))
@@ -140,8 +138,8 @@ module _ (s : Bytes) (c : ℕ) (out : Bytes) (w : DeskWritten) (out′ : Bytes) 
       checked = λ t y h a b.
           let many : length (listed s) ≡ d .collections = good-number s c (d .collections) (d .good) in
           let v : Verdict = said (y .0) in
-          let k : Checks (written s c) (t .0) (t .1) v (y .1 .0) (y .1 .1) = subst (λ (l : Bytes). Checks l (t .0) (t .1) v (y .1 .0) (y .1 .1)) front h in
-          ap checkedNumbers (list-checked s c (d .collections) (d .good) (t .0) (t .1) v (y .1 .0) (y .1 .1) (d .few) k (omega (arith, many)) (omega (arith, carried)))
+          let k : Checks (written s c) (t .slips) (t .rows) v (y .1 .slips) (y .1 .rows) = subst (λ (l : Bytes). Checks l (t .slips) (t .rows) v (y .1 .slips) (y .1 .rows)) front h in
+          ap checkedNumbers (list-checked s c (d .collections) (d .good) (t .slips) (t .rows) v (y .1 .slips) (y .1 .rows) (d .few) k (omega (arith, many)) (omega (arith, carried)))
           ∙ rw (← carried, ← many) refl;
     }
 

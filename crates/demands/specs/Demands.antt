@@ -1,8 +1,9 @@
 -- THE CUSTOMER'S THREE DEMANDS, in the customer's order and words: each sentence a claim about what the operations answer and leave behind.
 -- To be believed: that this is what was demanded. That it holds is proofs/Hold.
--- An operation is given x: its input, and the lent buffers at entry. Its outcome is y: its answer, and the buffers at exit.
+-- An operation is given x: its input (x .0), and the lent buffers at entry (x .1). Its outcome is y: its answer (y .0), and the buffers at exit (y .1).
+--   Tables, Job                          the two tables that a check is lent; the list and the ceiling that a writer is given
 --   Check, DeskCheck, Write, DeskWrite   y is an outcome that the promise of `check`, `desk_check`, `write`, `desk_write` allows for x
---   checkTold, writeTold                 their answers in numbers
+--   checkTold, writeTold                 the answers of `check` and `write` in numbers
 --   Demand1, Demand2, Demand3            the demands, of an operation whose answers are told in numbers by `told`
 --   FixedMessage, FewestBatches          what demands 2 and 3 ask of a written message
 --   Demands                              THE CLAIM, of the four operations
@@ -29,7 +30,7 @@ use Rattle.bundle.specs.Bundle.{Fits}
 use Rattle.listed.specs.Listed.{listed}
 use Rattle.written.specs.Written.{messageFor}
 use Rattle.write.specs.declared.Written.{Written}
-use Rattle.write.specs.Write.{answerFor, outputFor}
+use Rattle.write.specs.Write.{answered, answerFor, outputFor}
 use Rattle.carries.specs.Carried.{carriedBy, Accepted, CarriesList}
 use Rattle.desk.specs.declared.DeskChecked.{DeskChecked}
 use Rattle.desk.specs.declared.DeskWritten.{DeskWritten}
@@ -37,46 +38,51 @@ use Rattle.desk.specs.Answers.{checkedNumbers, DeskChecks, writtenNumbers}
 
 -- ─── the operations ───
 
--- the slip table and the batch table
-abbrev pub Tables : Type 0
-Tables = List ℕ × List ℕ
+pub record Tables : Type 0 where
+  pub slips : List ℕ
+  pub rows : List ℕ
 
--- given a message and both tables
 abbrev pub Check : Bytes × Tables → Checked × Tables → Type 0
-Check x y = Checks (x .0) (x .1 .0) (x .1 .1) (said (y .0)) (y .1 .0) (y .1 .1)
+Check x y = Checks (x .0) (x .1 .slips) (x .1 .rows) (said (y .0)) (y .1 .slips) (y .1 .rows)
 
 abbrev pub DeskCheck : Bytes × Tables → DeskChecked × Tables → Type 0
-DeskCheck x y = DeskChecks (x .0) (x .1 .0) (x .1 .1) (y .0) (y .1 .0) (y .1 .1)
+DeskCheck x y = DeskChecks (x .0) (x .1 .slips) (x .1 .rows) (y .0) (y .1 .slips) (y .1 .rows)
 
--- given a day list, a ceiling and the output
-abbrev pub Write : (Bytes × ℕ) × Bytes → Written × Bytes → Type 0
-Write x y = (y .0 ≡ answerFor (x .0 .0) (x .0 .1) (length (x .1))) × (y .1 ≡ outputFor (x .0 .0) (x .0 .1) (x .1))
+pub record Job : Type 0 where
+  pub list : Bytes
+  pub ceiling : ℕ
 
-abbrev pub DeskWrite : (Bytes × ℕ) × Bytes → DeskWritten × Bytes → Type 0
-DeskWrite x y = (y .0 ≡ writtenNumbers (answerFor (x .0 .0) (x .0 .1) (length (x .1)))) × (y .1 ≡ outputFor (x .0 .0) (x .0 .1) (x .1))
+-- the lent buffer is the output
+abbrev pub Write : Job × Bytes → Written × Bytes → Type 0
+Write x y =
+    (answered (y .0) ≡ answerFor (x .0 .list) (x .0 .ceiling) (length (x .1)))
+    × (y .1 ≡ outputFor (x .0 .list) (x .0 .ceiling) (x .1))
 
--- their answers in numbers
+abbrev pub DeskWrite : Job × Bytes → DeskWritten × Bytes → Type 0
+DeskWrite x y =
+    (y .0 ≡ writtenNumbers (answerFor (x .0 .list) (x .0 .ceiling) (length (x .1))))
+    × (y .1 ≡ outputFor (x .0 .list) (x .0 .ceiling) (x .1))
+
 abbrev pub checkTold : Checked → DeskChecked
 checkTold r = checkedNumbers (said r)
 
 abbrev pub writeTold : Written → DeskWritten
-writeTold r = writtenNumbers r
-
--- a number of none of the refusals 21 to 26
-abbrev pub MeetsNone : ℕ → Type 0
-MeetsNone n = 21 ≤ n → n ≤ 26 → ⊥
+writeTold r = writtenNumbers (answered r)
 
 -- ─── demand 1 ───
 
--- "Every public operation takes any input, of any length, ends, and does its own checking": none has a `requires`, and that a function ends is a part of its proof
+-- "Every public operation takes any input, of any length, ends, and does its own checking": none has a `requires`, and a proof of a function includes that it ends.
+-- I are the inputs, B the buffers, A the answers; `number` is 0 where nothing is refused
 module _ {I A B : Type 0} (allows : I × B → A × B → Type 0) (number : A → ℕ) (least most : ℕ) where
   pub record Demand1 : Type 0 where
-    -- "Each refusal carries one of the numbers in document 01"; 0 is none
-    pub numbers : (x : I × B) (y : A × B) → allows x y → (number (y .0) ≡ 0) ⊎ ((least ≤ number (y .0)) × (number (y .0) ≤ most))
+    -- "Each refusal carries one of the numbers in document 01"
+    pub numbers : (x : I × B) (y : A × B) → allows x y
+        → (number (y .0) ≡ 0) ⊎ ((least ≤ number (y .0)) × (number (y .0) ≤ most))
     -- "with its place, given exactly in the situation named there": any two outcomes that the promise allows are the same, answer and buffers
     pub once : (x : I × B) (y z : A × B) → allows x y → allows x z → y ≡ z
     -- "and the lent tables and buffers stay as they were"
-    pub keeps : (x : I × B) (y : A × B) → allows x y → (number (y .0) ≡ 0 → ⊥) → y .1 ≡ x .1
+    pub keeps : (x : I × B) (y : A × B) → allows x y
+        → (number (y .0) ≡ 0 → ⊥) → y .1 ≡ x .1
 
 -- ─── demand 2 ───
 
@@ -87,62 +93,85 @@ Tells (some t) mark value = (mark ≡ 1) × (value ≡ worth t)
 
 -- a row of the batch table, of the batch b
 abbrev pub RowTells : Batch → List ℕ → Type 0
-RowTells b row = Tells (b .declaredCount) (getD row 3 0) (getD row 4 0) × Tells (b .declaredSum) (getD row 5 0) (getD row 6 0)
+RowTells b row =
+    Tells (b .declaredCount) (getD row 3 0) (getD row 4 0)
+    × Tells (b .declaredSum) (getD row 5 0) (getD row 6 0)
 
--- the rows from the front of the table on
+-- the rows of the batches, from the front of the table on
 abbrev pub RowsTell : List Batch → List ℕ → Type 0
 RowsTell [] rows = Unit {0}
 RowsTell (b ∷ bs) rows = RowTells b (take 8 rows) × RowsTell bs (drop 8 rows)
 
+-- the tables are long enough for the message m
+abbrev pub LongEnough : Tables → Message Document → Type 0
+LongEnough t m = Enough (roomOf (t .slips) (t .rows)) (saidBy m)
+
+-- the number of an answer is 0 where the message is accepted
 module _ {A : Type 0} (allows : Bytes × Tables → A × Tables → Type 0) (told : A → DeskChecked) where
   pub record Demand2 : Type 0 where
-    -- "With tables long enough, a message is accepted exactly when it belongs to our profile of ISO 20022 pain.008.001.08 and every count and control sum it declares equals
-    -- the exact count and cents of its transactions, per batch and overall."
+    -- "With tables long enough, a message is accepted exactly when it belongs to our profile of ISO 20022 pain.008.001.08 and every count
+    -- and control sum it declares equals the exact count and cents of its transactions, per batch and overall."
     pub exactly : (x : Bytes × Tables) (y : A × Tables) → allows x y
-        → (told (y .0) .number ≡ 0) ↔ ((m : Message Document) × ((message declaration m ≡ x .0) × (Accepted m × Enough (roomOf (x .1 .0) (x .1 .1)) (saidBy m))))
-    -- of the bytes of any message m of the form
-    pub of-message : (m : Message Document) (t : Tables) (y : A × Tables) → allows (message declaration m, t) y → Enough (roomOf (t .0) (t .1)) (saidBy m)
+        → (told (y .0) .number ≡ 0) ↔ ((m : Message Document) × ((message declaration m ≡ x .0) × (Accepted m × LongEnough (x .1) m)))
+    -- the same of the bytes of any message m of the form
+    pub of-message : (m : Message Document) (t : Tables) (y : A × Tables) → allows (message declaration m, t) y → LongEnough t m
         → (told (y .0) .number ≡ 0) ↔ Accepted m
     -- "A message belongs to the profile when it meets no refusal that stands before 6" (document 01)
-    pub belongs : (x : Bytes × Tables) (y : A × Tables) → allows x y → ((m : Message Document) × Belongs (x .0) m) ↔ (1 ≤ told (y .0) .number → told (y .0) .number ≤ 5 → ⊥)
+    pub belongs : (x : Bytes × Tables) (y : A × Tables) → allows x y
+        → ((m : Message Document) × Belongs (x .0) m) ↔ (1 ≤ told (y .0) .number → told (y .0) .number ≤ 5 → ⊥)
     -- "An accepted message answers its batches, transactions and cents" (document 01)
     pub answers : (x : Bytes × Tables) (y : A × Tables) → allows x y → told (y .0) .number ≡ 0 → (m : Message Document) → message declaration m ≡ x .0
         → told (y .0) ≡ checkedNumbers (accepted (totalsOf (batchesOf (saidBy m))))
     -- "What is absent is reported as absent."
     pub absent : (x : Bytes × Tables) (y : A × Tables) → allows x y → told (y .0) .number ≡ 0 → (m : Message Document) → message declaration m ≡ x .0
-        → RowsTell (batchesOf (saidBy m)) (y .1 .1)
+        → RowsTell (batchesOf (saidBy m)) (y .1 .rows)
 
 -- "The writer's message for a list is the one document 01 fixes, is accepted and carries that list's collections" (how it carries them is demand 3)
 pub record FixedMessage (s : Bytes) (c n : ℕ) (out out′ : Bytes) : Type 0 where
-  -- it stands at the output's front, n bytes long, and is never longer than a message may be
+  -- it stands at the output's front, n bytes long, and is not longer than a message may be
   pub fixed : out′ ≡ putAt out 0 (message declaration (messageFor s c))
   pub long : n ≡ length (message declaration (messageFor s c))
   pub short : n ≤ mostBytes
   -- what was written, handed to the check with tables long enough, is accepted with the list's batches, collections and cents
-  pub checked : (t : Tables) (y : Checked × Tables) → Check (take n out′, t) y → 12 * length (listed s) ≤ length (t .0) → 8 * length (carriedBy (messageFor s c)) ≤ length (t .1)
-      → checkTold (y .0) ≡ record { number = 0; place = 0; batches = length (carriedBy (messageFor s c)); transactions = length (listed s); cents = total (λ x. x .cents) (listed s) }
+  pub checked : (t : Tables) (y : Checked × Tables) → Check (take n out′, t) y
+      → 12 * length (listed s) ≤ length (t .slips) → 8 * length (carriedBy (messageFor s c)) ≤ length (t .rows)
+      → checkTold (y .0)
+      ≡ record {
+        number = 0;
+        place = 0;
+        batches = length (carriedBy (messageFor s c));
+        transactions = length (listed s);
+        cents = total (λ x. x .cents) (listed s);
+      }
 
 -- ─── demand 3 ───
 
+-- a number of none of the refusals 21 to 26
+abbrev pub MeetsNone : ℕ → Type 0
+MeetsNone n = 21 ≤ n → n ≤ 26 → ⊥
+
 pub record FewestBatches (s : Bytes) (c : ℕ) : Type 0 where
-  -- "the written message carries exactly the listed collections, repeats included"
+  -- "the written message carries exactly the listed collections, repeats included,"
   pub carries : CarriesList (messageFor s c) c (listed s)
-  -- "each in a batch of its own scheme, sequence and date"
+  -- "each in a batch of its own scheme, sequence and date."
   pub own-terms : All (Fits (λ x. x .terms) c) (carriedBy (messageFor s c))
   -- "No message accepted under demand 2 that carries the same collections with no batch above the ceiling has fewer batches."
   pub fewest : (m : Message Document) → CarriesList m c (listed s) → length (carriedBy (messageFor s c)) ≤ length (carriedBy m)
 
-module _ {A : Type 0} (allows : (Bytes × ℕ) × Bytes → A × Bytes → Type 0) (told : A → DeskWritten) where
+-- the number of an answer is 0 where the message is written, and its place is then the length
+module _ {A : Type 0} (allows : Job × Bytes → A × Bytes → Type 0) (told : A → DeskWritten) where
   pub record Demand3 : Type 0 where
-    -- the message of demand 2
-    pub written : (x : (Bytes × ℕ) × Bytes) (y : A × Bytes) → allows x y → told (y .0) .number ≡ 0 → FixedMessage (x .0 .0) (x .0 .1) (told (y .0) .place) (x .1) (y .1)
-    pub carries : (x : (Bytes × ℕ) × Bytes) (y : A × Bytes) → allows x y → told (y .0) .number ≡ 0 → FewestBatches (x .0 .0) (x .0 .1)
-    -- "For a day list and a ceiling of 1 to 500 collections a batch that meet none of refusals 21 to 26, given room", a message is written, or 27 is answered
-    pub given-room : (x : (Bytes × ℕ) × Bytes) (y : A × Bytes) → allows x y → MeetsNone (told (y .0) .number) → mostBytes ≤ length (x .1)
+    -- "For a day list and a ceiling of 1 to 500 collections a batch that meet none of refusals 21 to 26, given room,": a message is written, or 27 is answered
+    pub given-room : (x : Job × Bytes) (y : A × Bytes) → allows x y → MeetsNone (told (y .0) .number) → mostBytes ≤ length (x .1)
         → (told (y .0) .number ≡ 0) ⊎ (told (y .0) .number ≡ 27)
+    -- the written message
+    pub fixed : (x : Job × Bytes) (y : A × Bytes) → allows x y → told (y .0) .number ≡ 0
+        → FixedMessage (x .0 .list) (x .0 .ceiling) (told (y .0) .place) (x .1) (y .1)
+    pub fewest : (x : Job × Bytes) (y : A × Bytes) → allows x y → told (y .0) .number ≡ 0
+        → FewestBatches (x .0 .list) (x .0 .ceiling)
     -- "The list is refused for too many batches exactly when no such message exists at all", whatever the room
-    pub too-many : (x : (Bytes × ℕ) × Bytes) (y : A × Bytes) → allows x y → MeetsNone (told (y .0) .number)
-        → (told (y .0) .number ≡ 27) ↔ ((m : Message Document) → CarriesList m (x .0 .1) (listed (x .0 .0)) → ⊥)
+    pub too-many : (x : Job × Bytes) (y : A × Bytes) → allows x y → MeetsNone (told (y .0) .number)
+        → (told (y .0) .number ≡ 27) ↔ ((m : Message Document) → CarriesList m (x .0 .ceiling) (listed (x .0 .list)) → ⊥)
 
 -- ─── the claim ───
 

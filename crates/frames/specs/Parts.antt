@@ -1,4 +1,4 @@
--- WHERE THE TEXTS OF A LINE STAND. To be believed; definitions only.
+-- WHERE THE TEXTS OF A LINE STAND, for the code. Not to be believed: no promise to a caller speaks of it.
 --   before i ts    how many bytes the first i texts take, each with its length byte
 --   partOf f i s   where text i stands in a line that holds the frame f, of which s are the bytes; a byte is two digits. `part-text`: its digits stand for the text
 use Prim.Native.Nat.{ℕ, _+_, _*_}

@@ -22,7 +22,8 @@ use Rattle.bundle.proofs.Loops.{labels-length}
 use Rattle.daylist.specs.declared.JudgedList.the-variants.{Good}
 use Rattle.daylist.specs.Stages.{judgedList}
 use Rattle.daylist.proofs.Goods.{GoodList, good-list, frames-each}
-use Rattle.listed.specs.Listed.{Collection, sameTerms, collectionOf, creditorOf, firstLine, creditor, termsNumber, listed, numbersOf}
+use Rattle.listed.specs.Listed.{Collection, sameTerms, collectionOf, creditorOf, firstLine, creditor, listed}
+use Rattle.listed.specs.Numbers.{termsNumber, numbersOf}
 use Rattle.listed.specs.Good.{GoodTerms, GoodCollection}
 use Rattle.listed.proofs.Terms.{terms-decide, same-number}
 use Rattle.listed.proofs.Lines.{none, numbers-length, collection-at}

@@ -25,7 +25,8 @@ use Rattle.frames.specs.Hex.{unhex}
 use Rattle.frames.specs.Frames.{texts}
 use Rattle.frames.proofs.Starts.{line-at, start-within, starts-number}
 use Rattle.daylist.proofs.Leads.{take-there}
-use Rattle.listed.specs.Listed.{Collection, collectionOf, termsNumber, listed, numbersOf}
+use Rattle.listed.specs.Listed.{Collection, collectionOf, listed}
+use Rattle.listed.specs.Numbers.{termsNumber, numbersOf}
 
 -- ─── a line, of which s are the bytes ───
 

@@ -12,7 +12,8 @@ use Rattle.laws.proofs.Loops.{same-eq}
 use Rattle.text.specs.Rules.{told, date}
 use Rattle.bundle.specs.Bundle.{Decides}
 use Rattle.bundle.proofs.Equality.{bytes-decide, numbers-decide, eq-true}
-use Rattle.listed.specs.Listed.{Terms, sameTerms, termsNumber}
+use Rattle.listed.specs.Listed.{Terms, sameTerms}
+use Rattle.listed.specs.Numbers.{termsNumber}
 use Rattle.listed.specs.Good.{GoodTerms}
 use Rattle.listed.proofs.Dates.{date-same}
 

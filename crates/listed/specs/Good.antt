@@ -1,4 +1,5 @@
--- GOOD VALUES: each text good by its rule, numbers within their limits. To be believed; definitions only. That a list that is judged good has none but good values is `good-collections` and `good-creditor`.
+-- GOOD VALUES: each text good by its rule, numbers within their limits. Not to be believed: no promise to a caller speaks of them.
+-- That a list that is judged good has none but good values is `good-collections` and `good-creditor`.
 --   emptyOr r s        the text s is empty, or good by the rule r
 --   GoodTerms k        scheme, sequence and collection date
 --   GoodCollection x   the values of a collection

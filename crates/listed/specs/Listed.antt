@@ -3,15 +3,12 @@
 --   Collection, Creditor        the values of a collection line and of the creditor line
 --   collectionOf s, creditorOf s   from the bytes of such a line
 --   listed s, creditor s        the collections of the list s, and its creditor
---   termsNumber k               the terms as one number: terms of real days are the same exactly where their numbers are (`same-number`)
---   numbersOf s                 the number of each collection's terms
-use Prim.Native.Nat.{ℕ, _+_, _*_}
+use Prim.Native.Nat.{ℕ}
 use mathlib.Core.Bool.{Bool, _&&_}
 use mathlib.Core.List.{List, [], _∷_, map}
 use lib.Dec.{eqb}
 use lib.ListN.{drop, getD}
 use Rattle.laws.specs.Bytes.{Bytes, same}
-use Rattle.text.specs.Rules.{told, date}
 use Rattle.frames.specs.Lines.{Line, lines}
 use Rattle.frames.specs.Hex.{unhex}
 use Rattle.frames.specs.Frames.{creditor as creditorFrame, collection as collectionFrame, leadOf, textsOf}
@@ -94,11 +91,3 @@ creditor s = creditorOf (unhex (firstLine (lines s)))
 
 abbrev pub listed : Bytes → List Collection
 listed s = map (λ l. collectionOf (unhex (l .bytes))) (drop 1 (lines s))
-
--- ─── terms as numbers ───
-
-abbrev pub termsNumber : Terms → ℕ
-termsNumber k = (told (date (k .date)) * 2 + k .scheme) * 4 + k .sequence
-
-abbrev pub numbersOf : Bytes → List ℕ
-numbersOf s = map (λ x. termsNumber (x .terms)) (listed s)

@@ -1,4 +1,4 @@
--- BATCHES, WHAT THEY DECLARE, AND THE TALLY. To be believed; definitions only.
+-- BATCHES, WHAT THEY DECLARE, AND THE TALLY, as the code keeps them. Not to be believed: a message's totals are message/specs/Message, and `verdict-right` says that these are they.
 --   countDiffers d n, sumDiffers d c   a declaration that is there, and differs; an absent one never does
 --   freshBatch, freshTally             nothing was read
 --   withTransaction y c                the tally y with a transaction of c more in its open batch

@@ -1,4 +1,4 @@
--- WHAT A WRITER PROMISES. To be believed; definitions only.
+-- WHAT A BYTE WRITER PROMISES. Not to be believed: the promise of `write` is write/specs/Write.
 --   Wrote out out′ at r bs   a writer of the bytes bs, from the place `at` on: it answers the place behind them; where there is room they stand there and nothing else changes
 use Prim.Native.Nat.{ℕ, _+_, _≤_}
 use mathlib.Core.List.{List}

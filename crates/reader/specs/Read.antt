@@ -1,4 +1,4 @@
--- WHAT READING A MESSAGE PROMISES. To be believed; definitions only.
+-- WHAT READING A MESSAGE PROMISES. Not to be believed: the promise of `check` is checked/specs/Check.
 --   carried kept slips rows   what the lent row and the lent tables hold: the state that the row keeps, and the tables
 --   ReadRight s a r b         with a carried in, the answer r, and b that is then carried, are right of the message s
 --   Bounded n r st            where the message was read, the numbers of the state st are small at the place n

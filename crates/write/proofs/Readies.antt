@@ -16,7 +16,8 @@ use Rattle.daylist.specs.declared.JudgedList.the-variants.{Good}
 use Rattle.daylist.specs.Stages.{judgedList}
 use Rattle.daylist.proofs.Goods.{GoodList, good-list}
 use Rattle.bundle.specs.Labels.{needOf, labelsOf}
-use Rattle.listed.specs.Listed.{Collection, creditorOf, listed, numbersOf}
+use Rattle.listed.specs.Listed.{Collection, creditorOf, listed}
+use Rattle.listed.specs.Numbers.{numbersOf}
 use Rattle.listed.proofs.Terms.{terms-decide}
 use Rattle.listed.proofs.Goods.{good-number, good-creditor, good-collections}
 use Rattle.listed.proofs.Found.{creditor-found, inside, collection-found, collection-framed, collection-good, label-some}

@@ -1,5 +1,6 @@
 -- THE MESSAGE THAT IS WRITTEN for the list of the examples, byte for byte: what the definitions compute. Its two collections are of one terms.
---   together, one-by-one    at the ceiling 2 one batch of both, 1,743 bytes; at the ceiling 1 two batches of one each, 2,338 bytes
+--   printed, apart          the message of one batch of both, 1,743 bytes; of two batches of one each, 2,338 bytes
+--   together, one-by-one    they are written at the ceiling 2, and at the ceiling 1
 use Prim.Native.String.{String}
 use mathlib.Core.Bool.{_&&_}
 use mathlib.Core.List.{[], _∷_}
@@ -44,12 +45,20 @@ batchEnd = ascii "</PmtInf>"
 abbrev ending : Bytes
 ending = ascii "</CstmrDrctDbtInitn></Document>"
 
--- ─── the message ───
+-- ─── the messages ───
 
-together : T (same (written dayList 2) (concat (opening ∷ headOf "B001" "2" "3250.15" ∷ transaction-1 ∷ transaction-2 ∷ batchEnd ∷ ending ∷ [])) && eqb (length (written dayList 2)) 1743)
+-- the printed message: both collections in one batch
+abbrev pub printed : Bytes
+printed = concat (opening ∷ headOf "B001" "2" "3250.15" ∷ transaction-1 ∷ transaction-2 ∷ batchEnd ∷ ending ∷ [])
+
+-- one in each of two batches
+abbrev pub apart : Bytes
+apart = concat (opening ∷ headOf "B001" "1" "1100.07" ∷ transaction-1 ∷ batchEnd ∷ headOf "B002" "1" "2150.08" ∷ transaction-2 ∷ batchEnd ∷ ending ∷ [])
+
+together : T (same (written dayList 2) printed && eqb (length printed) 1743)
 unfolding written decimalOf
 together = tt
 
-one-by-one : T (same (written dayList 1) (concat (opening ∷ headOf "B001" "1" "1100.07" ∷ transaction-1 ∷ batchEnd ∷ headOf "B002" "1" "2150.08" ∷ transaction-2 ∷ batchEnd ∷ ending ∷ [])) && eqb (length (written dayList 1)) 2338)
+one-by-one : T (same (written dayList 1) apart && eqb (length apart) 2338)
 unfolding written decimalOf
 one-by-one = tt

@@ -1,6 +1,6 @@
 -- `listed::terms_numbers` meets its contract. The invariant: with the numbers of the collections from i on put behind those that are written, they are all that is promised.
 use Rattle.listed.proofs.Lines.{numbers-fit, row-there, set-less, set-within, start-there, number-read}
-use Rattle.listed.specs.Listed.{numbersOf}
+use Rattle.listed.specs.Numbers.{numbersOf}
 use Rattle.frames.proofs.Cuts.{line-within}
 use Rattle.frames.specs.Lines.{notEnd}
 use Rattle.laws.proofs.Loops.{drop-part}
