@@ -2,7 +2,7 @@
 -- Steps    what `eat` and `span` find                  Choose  what `choose` finds
 -- Right    the reader of children is right             Whole   THE THEOREMS, of every description that passes the test
 -- Pain008  the theorems of the profile tree            Ways    each way of occurring, by cases
--- Cases    white space and the declaration, by cases
+-- Cases    white space and the beginning of a message, by cases; what the reader's answers say
 pub mod Shared
 pub mod Onto
 pub mod Steps

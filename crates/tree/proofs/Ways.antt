@@ -1,20 +1,18 @@
--- EACH WAY OF OCCURRING, by cases: how often an element may stand, on a small tree of its own. What is computed of the reader holds of `OfForm` by `read-right`.
+-- EACH WAY OF OCCURRING, by cases: how often an element may stand, on a small tree of its own. What the reader computes holds of `OfForm` by
+-- `is-of-form` and `is-not-of-form` of Cases.
 --   counts h        for 0, 1, 2 and 3 elements of the way h before a last one: is the message of the form?
 --   ways-right      once: only 1; maybe: 0, 1; at most two: 0, 1, 2; any: all; one or more: all but 0
 --   choice-right    a | b: either one, and neither none nor both
---   is-of-form, is-not-of-form   what the answers say
+--   accepted o      the answer o is that a message is of the form
 use Prim.Native.Nat.{ℕ, zero, suc}
 use Prim.Native.String.{String}
-use mathlib.Core.Bool.{Bool, true, false, not, _&&_}
+use mathlib.Core.Bool.{Bool, true, false}
 use mathlib.Core.List.{List, [], _∷_, _++_}
 use mathlib.Core.Path.{_≡_, refl}
-use lib.Dec.{T}
 use Rattle.laws.specs.Bytes.{Bytes, ascii}
-use Rattle.tree.specs.Form.{How, Elem, Items, elem, none, item, once, maybe, atMostTwo, any, oneOrMore, thisOrNext, OfForm}
+use Rattle.tree.specs.Form.{How, Elem, Items, elem, none, item, once, maybe, atMostTwo, any, oneOrMore, thisOrNext}
 use Rattle.tree.specs.declared.Kind.the-variants.{Holds}
-use Rattle.tree.specs.Apart.{okMessage}
 use Rattle.tree.specs.Reader.{Res, Res.done, Res.stuck, read, kids}
-use Rattle.tree.proofs.Whole.{Promise, read-right}
 
 -- ─── a small tree: <r>, elements <a> of the way h, then one <z> ───
 
@@ -27,7 +25,7 @@ root is = elem 0 (ascii "r") [] Holds is
 abbrev decl : Bytes
 decl = ascii "?"
 
-abbrev accepted : Res → Bool
+abbrev pub accepted : Res → Bool
 accepted (done es) = true
 accepted (stuck n) = false
 
@@ -59,19 +57,3 @@ pub choice-right :
     ≡ true ∷ true ∷ false ∷ false ∷ []
 unfolding kids
 choice-right = refl
-
--- ─── what the answers say, of every description that passes the test ───
-
-pub is-of-form : (d : Bytes) (e : Elem) → T (okMessage d e) → (s : Bytes) → T (accepted (read d e s)) → OfForm d e s
-is-of-form d e ok s = go (read d e s) (read-right d e ok s)
-  where
-    go : (o : Res) → Promise d e s o → T (accepted o) → OfForm d e s
-    go (done es) p t = (p .0, p .1)
-    go (stuck n) p t = absurd t
-
-pub is-not-of-form : (d : Bytes) (e : Elem) → T (okMessage d e) → (s : Bytes) → T (not (accepted (read d e s))) → OfForm d e s → ⊥
-is-not-of-form d e ok s = go (read d e s) (read-right d e ok s)
-  where
-    go : (o : Res) → Promise d e s o → T (not (accepted o)) → OfForm d e s → ⊥
-    go (done es) p t = absurd t
-    go (stuck n) p t = p .0
