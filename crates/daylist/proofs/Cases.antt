@@ -3,10 +3,10 @@
 --   lineOf s, frame s ts    a line of the digits s, ended by LF; a line of the digits s and of the texts ts, each behind its length byte
 --   in-words                the lines of the examples in words
 --   told j                  how a judged list is told; a good one as 0 and the number of its collections
+--   earlier-first           the order of the stages
 --   too-long, not-too-long, ceilings   21 and 22
 --   not-frames              23: a line that is no frame of its kind, or lacks LF
 --   few, many               24 and 25
---   earlier-first           the stages' order
 --   leads, creditor-texts, collection-texts   26: each field of a line breaks its rule; some that obey it
 use Prim.Native.Nat.{ℕ, _/_, _%_, _≤_, _<_}
 use Prim.Native.String.{String}
@@ -79,6 +79,20 @@ toldOf ls = told (judgedList (concat ls) 1)
 abbrev Told : List (List Bytes × Fault) → Type 0
 Told t = map (λ p. toldOf (p .0)) t ≡ map (λ p. p .1) t
 
+-- ─── the order of the stages ───
+
+-- frames of empty texts, and cents 0
+abbrev bareCreditor : Bytes
+bareCreditor = lineOf "0100000000000000"
+
+abbrev bare : Bytes
+bare = lineOf "02000000000000000000000000000000"
+
+-- 23 before 26, 24 before 26
+earlier-first : Told (
+    (bareCreditor ∷ bare ∷ lineOf "" ∷ [], fault 23 3) ∷ (bareCreditor ∷ [], fault 24 1) ∷ (bareCreditor ∷ bare ∷ [], flawed 26 Length 1) ∷ [])
+earlier-first = refl
+
 -- ─── 21 and 22 ───
 
 too-long : (s : Bytes) (c : ℕ) → 1_048_576 < length s → told (judgedList s c) ≡ fault 21 0
@@ -91,13 +105,6 @@ ceilings : map (λ c. told (judgedList dayList c)) (0 ∷ 1 ∷ 500 ∷ 501 ∷ 
 ceilings = refl
 
 -- ─── 23 ───
-
--- frames of empty texts, and cents 0
-abbrev bareCreditor : Bytes
-bareCreditor = lineOf "0100000000000000"
-
-abbrev bare : Bytes
-bare = lineOf "02000000000000000000000000000000"
 
 not-frames : Told (
     (lineOf "" ∷ [], fault 23 1)
@@ -120,17 +127,13 @@ not-frames = refl
 few : Told (([], fault 24 0) ∷ (creditorLine ∷ [], fault 24 1) ∷ (lineOf "01014A000000000000" ∷ [], fault 24 1) ∷ (creditorLine ∷ first ∷ [], fault 0 1) ∷ [])
 few = refl
 
-many : Told ((creditorLine ∷ replicate 1_000 bare, flawed 26 Number 2) ∷ (creditorLine ∷ replicate 1_001 bare, fault 25 1_002) ∷ [])
-many = refl
-
--- 23 before 25 and 26; 24 and 25 before 26, for frames of empty texts break their rules
-earlier-first : Told (
-    (bareCreditor ∷ bare ∷ lineOf "" ∷ [], fault 23 3)
-    ∷ (bareCreditor ∷ lineOf "" ∷ replicate 1_001 bare, fault 23 2)
-    ∷ (bareCreditor ∷ [], fault 24 1)
-    ∷ (bareCreditor ∷ bare ∷ [], flawed 26 Length 1)
+-- 23 before 25 before 26
+many : Told (
+    (creditorLine ∷ replicate 1_000 bare, flawed 26 Number 2)
+    ∷ (creditorLine ∷ replicate 1_001 bare, fault 25 1_002)
+    ∷ (creditorLine ∷ lineOf "" ∷ replicate 1_001 bare, fault 23 2)
     ∷ [])
-earlier-first = refl
+many = refl
 
 -- ─── 26 ───
 
