@@ -131,7 +131,7 @@ answers c t slips rows v a b p q h =
       ap (λ (w : Verdict). checkedNumbers w .place) e ∙ eqb→eq _ _ (and-r (eqb (checkedNumbers x .number) (c .number)) (eqb (checkedNumbers x .place) (c .place)) u),
     )
 
-pub cases-hold : All Answers cases
+cases-hold : All Answers cases
 unfolding cases case edit right computed kids
 cases-hold = of-each right Answers answers cases tt
 
@@ -148,11 +148,11 @@ elements p n = map (element p) (upFrom 1 n)
 abbrev enough : Room
 enough = record { slips = 24_000; rows = 512 }
 
-pub many-batches :
+many-batches :
     (checkedNumbers (verdictOf enough (elements part.batch 64)) .number ≡ 0) × (verdictOf enough (elements part.batch 65) ≡ refused (fault 3 65))
 many-batches = (refl, refl)
 
-pub many-transactions :
+many-transactions :
     (checkedNumbers (verdictOf enough (element part.batch 0 ∷ elements part.transaction 2_000)) .number ≡ 0)
     × (verdictOf enough (element part.batch 0 ∷ elements part.transaction 2_001) ≡ refused (fault 4 2_001))
     × (verdictOf enough (elements part.batch 65 ++ elements part.transaction 2_001) ≡ refused (fault 3 65))
@@ -168,7 +168,7 @@ abbrev saidIn : Bytes → List Told
 saidIn s = saidRead s (read declaration Document s)
 
 -- batch from 1, cents, then start and length of EndToEndId, MndtId, debtor Nm, debtor IBAN, Ustrd; no Ustrd in the second
-pub slips :
+slips :
     slipsOf (saidIn printed)
     ≡ 1 ∷ 110_007 ∷ 914 ∷ 5 ∷ 1010 ∷ 7 ∷ 1172 ∷ 14 ∷ 1218 ∷ 22 ∷ 1278 ∷ 10
     ∷ 1 ∷ 215_008 ∷ 1353 ∷ 5 ∷ 1449 ∷ 9 ∷ 1603 ∷ 14 ∷ 1649 ∷ 16 ∷ 0 ∷ 0
@@ -177,16 +177,16 @@ unfolding kids
 slips = refl
 
 -- transactions before it, count, cents, declared count, declared sum, 4 × scheme + sequence
-pub rows : rowsOf (saidIn printed) ≡ 0 ∷ 2 ∷ 325_015 ∷ 1 ∷ 2 ∷ 1 ∷ 325_015 ∷ 1 ∷ []
+rows : rowsOf (saidIn printed) ≡ 0 ∷ 2 ∷ 325_015 ∷ 1 ∷ 2 ∷ 1 ∷ 325_015 ∷ 1 ∷ []
 unfolding kids
 rows = refl
 
-pub rows-of-two : rowsOf (saidIn apart) ≡ 0 ∷ 1 ∷ 110_007 ∷ 1 ∷ 1 ∷ 1 ∷ 110_007 ∷ 1 ∷ 1 ∷ 1 ∷ 215_008 ∷ 1 ∷ 1 ∷ 1 ∷ 215_008 ∷ 1 ∷ []
+rows-of-two : rowsOf (saidIn apart) ≡ 0 ∷ 1 ∷ 110_007 ∷ 1 ∷ 1 ∷ 1 ∷ 110_007 ∷ 1 ∷ 1 ∷ 1 ∷ 215_008 ∷ 1 ∷ 1 ∷ 1 ∷ 215_008 ∷ 1 ∷ []
 unfolding kids
 rows-of-two = refl
 
 -- without the batch's sum; without its count; without both, in a batch of B2B and FNAL
-pub rows-absent :
+rows-absent :
     (rowsOf (saidIn (edit printed 394 26 "")) ≡ 0 ∷ 2 ∷ 325_015 ∷ 1 ∷ 2 ∷ 0 ∷ 0 ∷ 1 ∷ [])
     × (rowsOf (saidIn (edit printed 374 20 "")) ≡ 0 ∷ 2 ∷ 325_015 ∷ 0 ∷ 0 ∷ 1 ∷ 325_015 ∷ 1 ∷ [])
     × (rowsOf (saidIn (edit (edit (edit printed 503 4 "FNAL") 475 4 "B2B") 374 46 "")) ≡ 0 ∷ 2 ∷ 325_015 ∷ 0 ∷ 0 ∷ 0 ∷ 0 ∷ 7 ∷ [])
