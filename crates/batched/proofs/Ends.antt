@@ -8,7 +8,7 @@ use native.Mathlib.Nat.{le-refl}
 use native.Mathlib.Omega.{arith}
 use mathlib.Core.Bool.{true, false}
 use mathlib.Core.List.{[], _∷_}
-use mathlib.Core.Path.{_≡_, refl, ap, sym, _∙_}
+use mathlib.Core.Path.{_≡_, refl, ap, _∙_}
 use lib.Dec.{eqb, leb, leb→le}
 use lib.ListN.{length, take, drop, length-drop}
 use lib.Seq.{length-take-le, take-take}
@@ -16,7 +16,7 @@ use Rattle.laws.specs.Bytes.{Bytes, span}
 use Rattle.laws.proofs.Loops.{drop-part, span-le}
 use Rattle.laws.proofs.Tests.{and-l, and-r, true-T}
 use Rattle.frames.specs.Hex.{unhex}
-use Rattle.frames.specs.Frames.{holds, framed, collection}
+use Rattle.frames.specs.Frames.{framed, collection}
 use Rattle.frames.proofs.Digits.{unhex-length}
 use Rattle.frames.proofs.Parts.{unhex-take}
 use Rattle.listed.specs.Listed.{collectionOf}

@@ -3,7 +3,7 @@
 --   going-start, going-on, going-end     nothing is written; one piece more is; nothing is left
 use Prim.Native.Nat.{ℕ}
 use mathlib.Core.List.{[], _++_}
-use mathlib.Core.Path.{_≡_, refl, _∙_, subst}
+use mathlib.Core.Path.{_≡_, refl, _∙_}
 use lib.ListN.{length}
 use Rattle.laws.specs.Bytes.{Bytes}
 use Rattle.put.specs.Wrote.{Wrote}

@@ -4,7 +4,6 @@
 --   eq-sym                  it is the same the other way round
 --   numbers-decide          `eqb` decides equality of numbers
 --   bytes-decide            `same` decides equality of byte strings
-use Prim.Native.Nat.{ℕ}
 use mathlib.Core.Bool.{Bool, true, false}
 use mathlib.Core.List.{[], _∷_}
 use mathlib.Core.Path.{_≡_, refl, sym}

@@ -12,7 +12,7 @@ use mathlib.Core.List.{List, [], _∷_}
 use mathlib.Core.Path.{_≡_, sym, subst⁻¹, _∙_}
 use mathlib.Core.Logic.{_↔_}
 use lib.ListN.{length, drop}
-use Rattle.laws.specs.Lists.{keep, All, concat}
+use Rattle.laws.specs.Lists.{All, concat}
 use Rattle.laws.proofs.Counts.{All-kept, All-map, All-take, All-drop, All-gather}
 use Rattle.profile.specs.Limits.{mostBatches, mostCollections}
 use Rattle.tree.specs.Form.{Message}

@@ -6,7 +6,7 @@ use Prim.Native.Nat.{ℕ, _*_, _≤_}
 use native.Mathlib.Omega.{arith}
 use mathlib.Core.List.{List, [], _∷_, map}
 use mathlib.Core.Option.{Option, none, some}
-use mathlib.Core.Path.{_≡_, refl, ap, sym, subst, _∙_}
+use mathlib.Core.Path.{_≡_, refl, sym, subst, _∙_}
 use mathlib.Core.Logic.{_⊎_, inl, inr, _↔_}
 use Rattle.laws.specs.Bytes.{Bytes}
 use lib.Dec.{leb}
@@ -22,7 +22,7 @@ use Rattle.tree.specs.Pain008.{Document}
 use Rattle.tree.specs.Parts as part
 use Rattle.message.specs.declared.Told.{Told}
 use Rattle.message.specs.Message.{Batch, all, the, batchesOf, count, sum}
-use Rattle.message.specs.Verdict.{Room, Verdict, Verdict.accepted, Verdict.refused, verdict, at, first, orElse, unless, placeAfter, broken, firstBroken, differs, batchFault, stages, totalsOf, verdictOf}
+use Rattle.message.specs.Verdict.{Room, Verdict, Verdict.refused, verdict, at, first, orElse, unless, placeAfter, broken, firstBroken, differs, batchFault, stages}
 use Rattle.checked.specs.Check.{saidBy, roomOf, Long, Stuck, Judged as Read, Checks}
 use Rattle.checked.specs.Demand2.{InProfile, Belongs}
 use Rattle.checked.proofs.Accepts.{Passes, profile-passes, in-profile}

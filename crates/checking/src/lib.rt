@@ -1,9 +1,4 @@
 // The check of a message.
-ghost use mathlib.Core.Path.{_≡_};
-ghost use Prim.Native.Nat.{_≤_};
-ghost use lib.ListN.{length, take};
-ghost use Rattle.laws.specs.Put.{putAt};
-ghost use Rattle.message.specs.Verdict.{Room};
 ghost use Rattle.answer.specs.Said.{said};
 ghost use Rattle.checked.specs.Check.{Checks};
 ghost use Rattle.checking.specs.Inner.{Verdicts, Fills};

@@ -27,7 +27,7 @@ use Rattle.frames.specs.Lines.{Line, notEnd, lines}
 use Rattle.frames.specs.Hex.{hex, unhex}
 use Rattle.frames.specs.Frames.{frameOf, framed, isFrame}
 use Rattle.daylist.specs.Values.{judgedLine}
-use Rattle.daylist.specs.Stages.{must, next, framesFrom, ofLine, valuesFrom, judgedLines, judgedList}
+use Rattle.daylist.specs.Stages.{must, framesFrom, ofLine, valuesFrom, judgedLines, judgedList}
 use Rattle.frames.proofs.Cuts.{next-line, end-line}
 
 module _ (s : Bytes) (at n : ℕ) (e : span notEnd (drop at s) ≡ n) where

@@ -6,7 +6,7 @@
 --   judgedLine n s        line n judged: the flaw of its first field that breaks its rule, else good
 use Prim.Native.Nat.{ℕ}
 use mathlib.Core.List.{List, [], _∷_, _++_}
-use lib.ListN.{take, drop, getD}
+use lib.ListN.{drop, getD}
 use Rattle.laws.specs.Bytes.{Bytes}
 use Rattle.text.specs.declared.Judged.{Judged}
 use Rattle.text.specs.declared.Judged.the-variants.{Good, Bad}

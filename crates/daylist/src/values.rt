@@ -1,11 +1,11 @@
 // The values of a line, field by field.
 ghost use mathlib.Core.Path.{_≡_};
-ghost use Prim.Native.Nat.{_+_, _≤_, _<_, min};
+ghost use Prim.Native.Nat.{_+_, _≤_, _<_};
 ghost use lib.ListN.{length, take, drop, getD};
 ghost use Rattle.frames.specs.Hex.{unhex};
 ghost use Rattle.daylist.specs.Lead.{highFirst};
 ghost use Rattle.frames.specs.Fields.{needed, optional, creditorFields, collectionFields, fieldsOf, judgedField};
-ghost use Rattle.frames.specs.Frames.{frameOf, leadOf, textsOf, texts};
+ghost use Rattle.frames.specs.Frames.{frameOf, leadOf, texts};
 ghost use Rattle.daylist.specs.Values.{judgedLead, judgedTexts, firstBad, judgedLine};
 ghost use Rattle.text.specs.declared.Rule.the-variants.{Identifier, Remittance, CreditorIdentifier};
 use frames::Field;

@@ -1,7 +1,6 @@
--- DEMANDS 1 AND 2, OF A CHECK whose answers are told in numbers.
---   rows-tell            the rows of a table tell what each batch declares, and that it declares nothing
---   Numbered             an operation's outcomes are those of the check, told in numbers
---   demand-1, demand-2   the demands, of every such operation
+-- DEMANDS 1 AND 2, OF EVERY OUTCOME OF THE CHECK: its verdict told in numbers, and both tables.
+--   rows-tell   the rows of a table tell what each batch declares, and where it declares nothing
+--   numbers, keeps, exactly, of-message, belongs, answers, absent   the sentences of the demands
 use Prim.Native.Nat.{ℕ, _+_, _*_, _≤_}
 use native.Mathlib.Omega.{arith}
 use native.Mathlib.Decide.{decLe}
@@ -22,13 +21,12 @@ use Rattle.message.specs.Message.{Batch, batchesOf, count, sum, worthOf}
 use Rattle.message.specs.Verdict.{Verdict, Verdict.accepted, Verdict.refused, declared, row, rowsFrom, rowsOf, totalsOf}
 use Rattle.checked.specs.Check.{saidBy, roomOf, after, Long, Stuck, Judged, Checks}
 use Rattle.checked.specs.Demand2.{InProfile, AllAgree, Belongs, Enough}
-use Rattle.checked.proofs.Outcome.{same-said, one-outcome, refusal-keeps}
+use Rattle.checked.proofs.Outcome.{same-said, refusal-keeps}
 use Rattle.checked.proofs.Numbers.{refusal-number, belongs-exactly}
 use Rattle.checked.proofs.Demand2.{demand-2-accepts, demand-2-only}
 use Rattle.carries.specs.Carried.{Accepted}
-use Rattle.desk.specs.declared.DeskChecked.{DeskChecked}
 use Rattle.desk.specs.Answers.{checkedNumbers}
-use Rattle.demands.specs.Demands.{Tables, Tells, RowTells, RowsTell, Demand2}
+use Rattle.demands.specs.Demands.{Tells, RowsTell}
 
 -- ─── what is absent ───
 

@@ -1,9 +1,6 @@
 -- THE THREE DEMANDS HOLD, of all four operations.
 --   demands   THE CLAIM is proved
-use Prim.Native.Nat.{ℕ}
-use mathlib.Core.Path.{_≡_, refl, ap, sym, subst, _∙_}
-use mathlib.Core.Logic.{_⊎_, _↔_}
-use mathlib.Core.List.{List}
+use mathlib.Core.Path.{_≡_, refl, ap, sym, _∙_}
 use lib.ListN.{length}
 use Rattle.laws.specs.Bytes.{Bytes}
 use Rattle.tree.specs.Form.{message}

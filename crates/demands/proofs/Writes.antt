@@ -1,26 +1,24 @@
 -- DEMANDS 1 TO 3, OF WHAT THE WRITER ANSWERS AND LEAVES IN THE OUTPUT.
 --   Outcome, outcome   the four ways in which writing ends: 21 to 26; 27; 28; written
 --   numbers, keeps, fixed, fewest, given-room, too-many   the demands, of each of them
-use Prim.Native.Nat.{ℕ, _+_, _*_, _≤_, _<_}
+use Prim.Native.Nat.{ℕ, _+_, _≤_, _<_}
 use native.Mathlib.Omega.{arith}
 use native.Mathlib.Decide.{decLe}
-use mathlib.Core.List.{List, _++_}
+use mathlib.Core.List.{List}
 use mathlib.Core.Logic.{_⊎_, inl, inr, _↔_}
 use mathlib.Core.Path.{_≡_, refl, ap, sym, subst, _∙_}
 use borrow.Author.Tests.{le-leb, lt-leb}
 use lib.ListN.{length, take, drop}
 use lib.Seq.{take-at}
 use Rattle.laws.specs.Bytes.{Bytes}
-use Rattle.laws.specs.Lists.{total, All}
+use Rattle.laws.specs.Lists.{All}
 use Rattle.laws.specs.Put.{putAt}
 use Rattle.laws.proofs.Counts.{All-map}
 use Rattle.profile.specs.Limits.{mostBytes, mostBatches}
-use Rattle.profile.specs.declared.Totals.{Totals}
 use Rattle.profile.specs.Refusals.{fault}
 use Rattle.tree.specs.Form.{Message}
 use Rattle.tree.specs.Pain008.{Document}
 use Rattle.message.specs.Verdict.{Verdict, Verdict.accepted}
-use Rattle.answer.specs.declared.Checked.{Checked}
 use Rattle.answer.specs.Said.{said}
 use Rattle.checked.specs.Check.{Checks}
 use Rattle.daylist.specs.declared.JudgedList.{JudgedList}
@@ -37,10 +35,9 @@ use Rattle.written.specs.Written.{batchesFor, messageFor, written}
 use Rattle.write.specs.Write.{Answer, Answer.success, Answer.refused, needed, fitted, bundled, judged, after, answerFor, outputFor}
 use Rattle.carries.specs.Carried.{carriedBy, CarriesList}
 use Rattle.carries.proofs.Lists.{list-carried, list-carries, list-fewest, list-refused, list-checked}
-use Rattle.desk.specs.declared.DeskChecked.{DeskChecked}
 use Rattle.desk.specs.declared.DeskWritten.{DeskWritten}
 use Rattle.desk.specs.Answers.{checkedNumbers, writtenNumbers}
-use Rattle.demands.specs.Demands.{Tables, MeetsNone, FixedMessage, FewestBatches}
+use Rattle.demands.specs.Demands.{MeetsNone, FixedMessage, FewestBatches}
 
 -- ─── how writing ends ───
 

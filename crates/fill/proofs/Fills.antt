@@ -28,12 +28,12 @@ use Rattle.profile.specs.declared.Tally.{Tally}
 use Rattle.tree.specs.declared.Event.{Event}
 use Rattle.tree.specs.Parts as part
 use Rattle.message.specs.declared.Told.{Told}
-use Rattle.message.specs.Message.{is, told}
+use Rattle.message.specs.Message.{told}
 use Rattle.state.specs.declared.Open.{Open}
 use Rattle.state.specs.declared.Open.the-variants.{Nothing, Cents as OpenCents}
 use Rattle.state.specs.declared.Slip.{Slip}
 use Rattle.state.specs.declared.State.{State}
-use Rattle.state.specs.State.{pick, settled, adding, step}
+use Rattle.state.specs.State.{settled, adding, step}
 use Rattle.state.specs.Fill.{slipNumbers, countNumbers, sumNumbers, rowNumbers, putIf, putSlip, Carried, filledSlips, filledRows, carryStep, stepOf, Within, Sane, Fit}
 use Rattle.state.proofs.Steps.{close-some}
 use Rattle.state.proofs.Bounds.{within-step}

@@ -5,7 +5,7 @@ ghost use Prim.Native.Nat.{_+_, _*_, _≤_, _<_};
 ghost use lib.ListN.{length};
 ghost use Rattle.profile.specs.Limits.{mostBytes};
 ghost use Rattle.tree.specs.declared.Event.{Event};
-ghost use Rattle.state.specs.Fill.{slipNumbers, rowNumbers, putIf, filledSlips, filledRows, carryStep, stepOf, Carried, Within, Sane, Fit};
+ghost use Rattle.state.specs.Fill.{slipNumbers, rowNumbers, putIf, filledSlips, filledRows, carryStep, stepOf, Within, Sane, Fit};
 ghost use Rattle.kept.specs.Kept.{keptLength, stateOf};
 use message::Told;
 use profile::Batch;

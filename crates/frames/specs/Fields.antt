@@ -4,7 +4,7 @@
 --   fieldsOf n                         the fields of line n
 --   judgedField f s                    the text s judged as the field f
 use Prim.Native.Nat.{ℕ}
-use mathlib.Core.Bool.{Bool, true, false, _&&_}
+use mathlib.Core.Bool.{true, false, _&&_}
 use mathlib.Core.List.{List, [], _∷_}
 use lib.Dec.{eqb}
 use lib.ListN.{length}

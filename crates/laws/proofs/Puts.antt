@@ -4,14 +4,14 @@
 --   put-back                       what comes back of a part that was lent
 --   put-one, put-step              one store; one store of a copying loop
 --   row-of-sets                    a row of stores
-use mathlib.Core.Path.{_≡_, refl, ap, sym, _∙_}
+use mathlib.Core.Path.{_≡_, sym}
 use mathlib.Core.List.{List, [], _∷_, _++_, append-assoc, append-nil}
-use Prim.Native.Nat.{ℕ, suc, _+_, _-_, _≤_, _<_}
+use Prim.Native.Nat.{ℕ, _+_, _-_, _≤_, _<_}
 use native.Mathlib.Nat.{add-zero, add-assoc}
 use native.Mathlib.Numerals.{add-one}
 use native.Mathlib.Omega.{arith}
 use lib.ListN.{length, take, drop, set, getD, length-append, length-take, length-drop, take-append-drop, drop-of-length-le}
-use lib.Seq.{length-take-le, take-at, drop-at, drop-drop, drop-append-add, set-split, sets, sets-eq}
+use lib.Seq.{length-take-le, take-at, drop-at, drop-drop, set-split, sets, sets-eq}
 use Rattle.laws.specs.Put.{putAt}
 use Rattle.laws.proofs.Loops.{drop-step}
 

@@ -5,7 +5,7 @@ use mathlib.Core.List.{[], _∷_}
 use mathlib.Core.Path.{_≡_, refl}
 use Rattle.laws.specs.Bytes.{ascii}
 use Rattle.daylist.proofs.Cases.{dayList}
-use Rattle.listed.specs.Listed.{Terms, Collection, Creditor, creditor, listed}
+use Rattle.listed.specs.Listed.{Terms, creditor, listed}
 
 pub says-creditor :
     creditor dayList

@@ -4,7 +4,7 @@ ghost use mathlib.Core.Bool.{true};
 ghost use Prim.Native.Nat.{_≤_, _<_, _%_};
 ghost use lib.ListN.{length};
 ghost use Rattle.laws.specs.Bytes.{between, all, span, same};
-ghost use Rattle.marks.specs.Marks.{digit, capital, small, capitalOrDigit, letterOrDigit, letter, slashed, mark, fits, value, letterValue, spelledFrom};
+ghost use Rattle.marks.specs.Marks.{digit, capital, capitalOrDigit, letterOrDigit, letter, slashed, mark, fits, value, letterValue, spelledFrom};
 
 // ─── one byte ───
 

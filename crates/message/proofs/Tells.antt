@@ -2,12 +2,11 @@
 --   told-is   the text's part of the message was judged: that is the event told
 use Prim.Native.Nat.{ℕ, _+_, _-_}
 use native.Mathlib.Omega.{arith}
-use mathlib.Core.Path.{_≡_, ap, sym, _∙_}
+use mathlib.Core.Path.{_≡_, ap, _∙_}
 use lib.ListN.{take, drop}
 use Rattle.laws.specs.Bytes.{Bytes}
 use Rattle.text.specs.declared.Judged.{Judged}
 use Rattle.tree.specs.declared.Event.{Event}
-use Rattle.message.specs.declared.Told.{Told}
 use Rattle.message.specs.Message.{told, judgedAs}
 
 pub told-is : (s : Bytes) (e : Event) (j : Judged) → j ≡ judgedAs (e .kind) (take (e .start + e .length - e .start) (drop (e .start) s))

@@ -8,7 +8,7 @@
 --   Transaction, Batch         what is said of each; transactionOf, batchOf: from the events of its part
 --   batchesOf ts               the batches of a message, in order
 --   count b, sum b             a batch's number of transactions, and their cents
-use Prim.Native.Nat.{ℕ, _+_}
+use Prim.Native.Nat.{ℕ}
 use mathlib.Core.Bool.{Bool, true, false}
 use mathlib.Core.List.{List, [], _∷_, map}
 use mathlib.Core.Option.{Option, none, some}

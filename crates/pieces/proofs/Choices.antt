@@ -11,7 +11,7 @@ use lib.ListN.{length, take, drop, getD}
 use lib.Seq.{getD-take, getD-drop}
 use Rattle.laws.specs.Bytes.{Bytes, ascii}
 use Rattle.frames.specs.Frames.{collection, leadOf}
-use Rattle.put.specs.Numerals.{decimal, euros, batchId}
+use Rattle.put.specs.Numerals.{decimal, euros}
 use Rattle.put.specs.Wrote.{Wrote}
 use Rattle.listed.specs.Listed.{Creditor}
 use Rattle.written.specs.Written.{schemeWord, sequenceWord}

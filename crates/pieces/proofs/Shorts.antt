@@ -14,7 +14,7 @@ use lib.ListN.{length, take, drop, getD, length-take}
 use Rattle.laws.specs.Bytes.{Bytes}
 use Rattle.laws.specs.Lists.{All}
 use Rattle.laws.proofs.Counts.{All-drop}
-use Rattle.frames.specs.Hex.{hexValue, unhex}
+use Rattle.frames.specs.Hex.{unhex}
 use Rattle.frames.specs.Frames.{frameOf, framed, texts, textsOf}
 use Rattle.frames.specs.Parts.{partOf}
 use Rattle.frames.specs.declared.Frame.{Frame}

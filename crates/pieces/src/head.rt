@@ -1,7 +1,6 @@
 // What stands before the first transaction of a batch, and before the first batch of a message.
 ghost use mathlib.Core.Path.{_≡_};
 ghost use mathlib.Core.Bool.{true};
-ghost use mathlib.Core.List.{_++_};
 ghost use Prim.Native.Nat.{_+_, _≤_, _<_, _^_};
 ghost use Rattle.frames.specs.Hex.{unhex};
 ghost use Rattle.frames.specs.Frames.{framed, creditor, collection};

@@ -1,6 +1,5 @@
 // The texts of a line that holds its frame. Line 1 is the creditor's, every further line a collection; the texts count from 0.
 ghost use mathlib.Core.Path.{_≡_};
-ghost use mathlib.Core.Bool.{true};
 ghost use mathlib.Core.List.{_++_};
 ghost use Prim.Native.Nat.{_+_, _≤_, _<_, _^_};
 ghost use lib.ListN.{length};

@@ -1,7 +1,7 @@
 -- A REFUSAL IS KNOWN BY ITS NUMBER, ITS PLACE AND ITS FLAW: each has a number of its own, so it is read back from what it is told as.
 --   fault-once, list-fault-once
 use Prim.Native.Nat.{ℕ, _-_}
-use mathlib.Core.List.{List, [], _∷_}
+use mathlib.Core.List.{[], _∷_}
 use mathlib.Core.Option.{Option, none, some}
 use mathlib.Core.Path.{_≡_, refl, ap, sym, _∙_}
 use lib.ListN.{getD}

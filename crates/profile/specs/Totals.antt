@@ -4,7 +4,7 @@
 --   withTransaction y c                the tally y with a transaction of c more in its open batch
 --   closed y                           the tally y with its open batch closed
 --   totals y                           batches, transactions and cents of the closed batches
-use Prim.Native.Nat.{ℕ, _+_}
+use Prim.Native.Nat.{_+_}
 use mathlib.Core.Bool.{Bool, false, not}
 use lib.Dec.{eqb}
 use Rattle.profile.specs.declared.NumberOfTransactions.{NumberOfTransactions}

@@ -14,7 +14,6 @@ use lib.Dec.{ltb}
 use lib.ListN.{length, take, drop, set, length-append, length-set}
 use lib.Seq.{set-split, drop-at, length-take-le}
 use Rattle.laws.specs.Bytes.{Bytes}
-use Rattle.laws.specs.Put.{putAt}
 use Rattle.laws.proofs.Puts.{put-nil, put-append, put-one, put-back, length-put}
 use Rattle.put.specs.Numerals.{digit, decimalOf, decimal, euros}
 use Rattle.put.specs.Wrote.{Wrote}

@@ -9,17 +9,17 @@
 --   element-read           an element: its run, its event, its children
 --   Kept                   what a turn keeps
 --   fine-from, fine-ended, closed-fine   of what is fine behind a place
-use Prim.Native.Nat.{ℕ, zero, suc, _+_, _-_, _<_, _≤_, max}
+use Prim.Native.Nat.{ℕ, suc, _+_, _-_, _<_, _≤_, max}
 use native.Mathlib.Nat.{not-suc-le-zero, zero-max}
 use native.Mathlib.Omega.{arith}
 use mathlib.Core.Bool.{Bool, true, false, not}
-use mathlib.Core.List.{List, [], _∷_, _++_}
+use mathlib.Core.List.{List, [], _∷_}
 use mathlib.Core.Path.{_≡_, refl, ap, sym, subst, _∙_}
 use mathlib.Core.Logic.{_⊎_, inl, inr}
 use lib.Dec.{T, eqb}
 use lib.ListN.{length, drop}
 use Rattle.laws.specs.Bytes.{Bytes, span}
-use Rattle.laws.proofs.Tests.{eqb-cases, eqb-comm, bool-cases}
+use Rattle.laws.proofs.Tests.{eqb-comm, bool-cases}
 use Rattle.tree.specs.declared.Kind.{Kind}
 use Rattle.tree.specs.declared.Kind.the-variants.{Holds}
 use Rattle.tree.specs.Form.{How, Elem, Items, none, item, event, part, kind, items, inRun, opening, closing, skips, after, common}

@@ -2,20 +2,19 @@
 --   root-missed, root-lost, root-more, root-done   the root's tag does not stand there; the root is not read; something follows it; nothing does
 --   with-declaration, without-declaration          the declaration stands there, or not
 --   read-is                                        an answer that is right of the reader is right of the form
-use Prim.Native.Nat.{ℕ, zero, suc, _+_, _-_, _<_, _≤_, max}
+use Prim.Native.Nat.{ℕ, _+_, _-_, _<_, _≤_, max}
 use native.Mathlib.Nat.{add-assoc, add-zero, zero-add, zero-max}
 use native.Mathlib.Omega.{arith}
-use mathlib.Core.List.{List, [], _∷_, _++_}
+use mathlib.Core.List.{List}
 use mathlib.Core.Path.{_≡_, refl, ap, sym, subst, _∙_}
-use lib.Dec.{T}
-use lib.ListN.{length, drop, drop-of-length-le, length-drop}
+use lib.ListN.{length, drop, drop-of-length-le}
 use lib.Seq.{drop-drop, drop-cons, drop-append-seam}
 use Rattle.laws.specs.Bytes.{Bytes, span}
 use Rattle.profile.specs.Limits.{mostBytes}
 use Rattle.tree.specs.declared.Kind.the-variants.{Holds}
 use Rattle.tree.specs.declared.Event.{Event}
-use Rattle.tree.specs.Form.{Elem, inRun, opening, common, Message, message, messageEvents}
-use Rattle.tree.specs.Tags.{Eat, ate, miss, eat}
+use Rattle.tree.specs.Form.{Elem, inRun, opening, common}
+use Rattle.tree.specs.Tags.{ate, miss, eat}
 use Rattle.tree.specs.Reader.{Got, got, lost, kids, element, Res, done, stuck, shift, farther, atEnd, finish, start, lead, read}
 use Rattle.tree.specs.Pain008.{Document, declaration}
 use Rattle.tree.proofs.Steps.{Eaten, eaten}
@@ -24,8 +23,8 @@ use Rattle.tree.proofs.Pain008.{read-right}
 use Rattle.state.specs.Fill.{Carried, stepOf}
 use Rattle.reader.specs.declared.Outcome.{Outcome}
 use Rattle.reader.specs.declared.Outcome.the-variants.{TooLong, Stuck, Read}
-use Rattle.reader.specs.Walk.{At, ended, halts, fold, from, elementAt}
-use Rattle.reader.specs.Read.{ReadRight, Answers, Rooted}
+use Rattle.reader.specs.Walk.{ended, halts, fold, from, elementAt}
+use Rattle.reader.specs.Read.{ReadRight, Answers}
 use Rattle.reader.proofs.Walks.{from-element}
 use Rattle.tags.specs.declared.Found.{Found}
 use Rattle.tags.specs.declared.Found.the-variants.{Whole, Part}

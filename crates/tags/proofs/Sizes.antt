@@ -4,7 +4,7 @@
 --   open-short, close-short    those that are no more than 16 bytes
 use Prim.Native.Nat.{ℕ, _<_, _≤_}
 use mathlib.Core.Bool.{Bool, _&&_}
-use mathlib.Core.List.{List, [], _∷_}
+use mathlib.Core.List.{[], _∷_}
 use mathlib.Core.Path.{_≡_, sym}
 use lib.Dec.{T, leb, leb→le}
 use lib.ListN.{length}

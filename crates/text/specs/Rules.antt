@@ -10,7 +10,7 @@ use Prim.Native.Nat.{ℕ, suc, _+_, _-_, _*_, _%_}
 use Prim.Native.String.{String}
 use mathlib.Core.Bool.{Bool, true, false, not, _&&_, _||_}
 use mathlib.Core.List.{List, [], _∷_, _++_}
-use lib.Dec.{eqb, leb}
+use lib.Dec.{eqb}
 use lib.ListN.{length, take, drop, getD}
 use Rattle.laws.specs.Bytes.{Bytes, ascii, between, all, span, same}
 use Rattle.marks.specs.Marks.{digit, capitalOrDigit, letterOrDigit, letter, slashed, fits, value, spelled}

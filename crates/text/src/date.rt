@@ -5,7 +5,7 @@ ghost use Prim.Native.Nat.{_+_, _≤_, _*_};
 ghost use lib.ListN.{length, take, drop};
 ghost use Rattle.laws.specs.Bytes.{all};
 ghost use Rattle.marks.specs.Marks.{digit};
-ghost use Rattle.text.specs.Rules.{part, leap, days, realDay, dated, date, clock, time};
+ghost use Rattle.text.specs.Rules.{part, leap, days, realDay, date, clock, time};
 use crate::Judged;
 use profile::Flaw;
 

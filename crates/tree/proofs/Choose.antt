@@ -2,10 +2,9 @@
 -- others part from the bytes within the tag found (`ruled`). And runs: a run is the one that `span` finds, or parts from it there (`span-parts`).
 use Prim.Native.Nat.{ℕ, zero, suc, _+_, _≤_, zero-le, suc-le-suc, max}
 use native.Mathlib.Nat.{le-max-left, le-max-right}
-use native.Mathlib.Omega.{arith}
 use mathlib.Core.Bool.{Bool, true, false, not, _&&_}
 use mathlib.Core.List.{List, [], _∷_, _++_}
-use mathlib.Core.Path.{_≡_, refl, ap, ap₂, sym, subst}
+use mathlib.Core.Path.{_≡_, refl, ap₂, sym, subst}
 use mathlib.Core.Logic.{_≢_, _⊎_, inl, inr}
 use lib.Dec.{T, T-not}
 use lib.ListN.{length, take as takeN}

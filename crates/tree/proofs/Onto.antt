@@ -1,7 +1,7 @@
 -- The bytes and the events of a tree in front of what follows it: the same as `print` and `says`, in the form in which the reader meets them.
 use Prim.Native.Nat.{ℕ, _+_}
-use mathlib.Core.List.{List, [], _∷_, _++_, append-assoc}
-use mathlib.Core.Path.{_≡_, refl, ap, sym, _∙_}
+use mathlib.Core.List.{List, _∷_, _++_, append-assoc}
+use mathlib.Core.Path.{_≡_, refl, ap, _∙_}
 use native.Mathlib.Nat.{add-assoc, add-zero}
 use lib.ListN.{length, length-append}
 use Rattle.laws.specs.Bytes.{Bytes}

@@ -1,15 +1,15 @@
 -- What `eat` and `span` find.
-use Prim.Native.Nat.{ℕ, zero, suc, _+_, _≤_}
+use Prim.Native.Nat.{ℕ, suc, _+_, _≤_}
 use native.Mathlib.Omega.{arith}
 use mathlib.Core.Bool.{Bool, true, false}
-use mathlib.Core.List.{List, [], _∷_, _++_}
+use mathlib.Core.List.{[], _∷_, _++_}
 use mathlib.Core.Path.{_≡_, refl, ap, ap₂, sym}
 use lib.Dec.{T}
 use lib.ListN.{length, take, drop, length-append, length-drop, take-append-drop}
 use lib.Seq.{length-take-le}
 use Rattle.laws.proofs.Loops.{all-span, span-le}
 use Rattle.laws.specs.Bytes.{Bytes, all, span}
-use Rattle.laws.proofs.Tests.{bool-cases, eqb-cases}
+use Rattle.laws.proofs.Tests.{eqb-cases}
 use Rattle.tree.specs.Tags.{Eat, Eat.ate, Eat.miss, oneMore, eat}
 use Rattle.tree.proofs.Shared.{Off, Shares}
 

@@ -1,18 +1,18 @@
 -- THE THEOREMS, for every description that passes the test `okMessage`: what `read` accepts is of the form, with exactly its tree's events; all of the form
 -- is accepted; and where it is stuck, the number is the length of the longest beginning shared with some message of the form.
-use Prim.Native.Nat.{ℕ, zero, suc, _+_, _≤_, max}
+use Prim.Native.Nat.{ℕ, _+_, max}
 use native.Mathlib.Nat.{le-max-left, le-max-right, le-antisymm, le-refl, zero-add}
 use native.Mathlib.Omega.{arith}
-use mathlib.Core.Bool.{Bool, true, false, not, _&&_}
+use mathlib.Core.Bool.{Bool, true, false, _&&_}
 use mathlib.Core.List.{List, [], _∷_, _++_, append-nil, append-assoc}
 use mathlib.Core.Path.{_≡_, refl, ap, sym, subst, _∙_}
-use mathlib.Core.Logic.{_≢_, _⊎_, inl, inr}
+use mathlib.Core.Logic.{_⊎_, inl, inr}
 use lib.Dec.{T}
-use lib.ListN.{length, drop, take as takeN, length-append, length-drop, take-append-drop}
+use lib.ListN.{length, drop, take as takeN, take-append-drop}
 use lib.Seq.{length-take-le}
 use Rattle.laws.specs.Bytes.{Bytes, all, span}
 use Rattle.laws.proofs.Tests.{max-cases, and-l, and-r}
-use Rattle.tree.specs.Form.{Elem, Tree, Run, inRun, white, opening, print, says, Message, message, messageEvents, declOf, OfForm, IsPlace, NotOfForm, Tree.tree}
+use Rattle.tree.specs.Form.{Elem, Tree, Run, inRun, white, opening, print, says, Message, message, messageEvents, declOf, IsPlace, NotOfForm, Tree.tree}
 use Rattle.tree.specs.declared.Kind.{Kind}
 use Rattle.tree.specs.declared.Kind.the-variants.{Holds}
 use Rattle.tree.specs.declared.Event.{Event}

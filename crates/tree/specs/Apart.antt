@@ -2,7 +2,6 @@
 --   apart s t              neither word is a beginning of the other
 --   okElem, okItems        the tags that can meet in an element are apart
 --   okMessage decl root    and so are the declaration and the root's tag
-use Prim.Native.Nat.{ℕ}
 use mathlib.Core.Bool.{Bool, true, false, not, _&&_}
 use mathlib.Core.List.{[], _∷_}
 use lib.Dec.{eqb}

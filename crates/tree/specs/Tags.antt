@@ -1,8 +1,8 @@
 -- THE TAGS AT A PLACE: which child, or the closing tag, stands where one is due. Definitions that compute.
-use Prim.Native.Nat.{ℕ, zero, suc, _+_, max}
-use mathlib.Core.Bool.{Bool, true, false}
-use mathlib.Core.List.{List, [], _∷_, _++_}
-use lib.Dec.{T, eqb}
+use Prim.Native.Nat.{ℕ, suc, max}
+use mathlib.Core.Bool.{true, false}
+use mathlib.Core.List.{[], _∷_}
+use lib.Dec.{eqb}
 use Rattle.laws.specs.Bytes.{Bytes}
 use Rattle.tree.specs.Form.{none, Elem, Items, opening, skips, after, item}
 

@@ -2,11 +2,11 @@
 --   ready, batches-ready    each collection is found and has a label; each batch has a collection
 --   written-is              the message by labels is the written one
 --   written-short           it is not longer than a message may be
-use Prim.Native.Nat.{ℕ, _+_, _≤_, _<_}
+use Prim.Native.Nat.{ℕ, _≤_}
 use native.Mathlib.Omega.{arith}
 use mathlib.Core.List.{List}
 use mathlib.Core.Path.{_≡_, ap}
-use lib.ListN.{length, getD}
+use lib.ListN.{length}
 use Rattle.laws.specs.Bytes.{Bytes}
 use Rattle.profile.specs.Limits.{mostBytes, mostBatches}
 use Rattle.frames.specs.Lines.{starts, lineFrom}
@@ -16,7 +16,7 @@ use Rattle.daylist.specs.declared.JudgedList.the-variants.{Good}
 use Rattle.daylist.specs.Stages.{judgedList}
 use Rattle.daylist.proofs.Goods.{GoodList, good-list}
 use Rattle.bundle.specs.Labels.{needOf, labelsOf}
-use Rattle.listed.specs.Listed.{Collection, creditorOf, listed}
+use Rattle.listed.specs.Listed.{creditorOf, listed}
 use Rattle.listed.specs.Numbers.{numbersOf}
 use Rattle.listed.proofs.Terms.{terms-decide}
 use Rattle.listed.proofs.Goods.{good-number, good-creditor, good-collections}

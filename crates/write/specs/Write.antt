@@ -8,7 +8,7 @@
 --   answerFor s c room     THE ANSWER for the list s at the ceiling c, with so much room: the first refusal of 21 to 28, or the length of the message
 --   outputFor s c out      THE OUTPUT afterwards: the message at its front and else as it was; on refusal as it was
 use Prim.Native.Nat.{ℕ}
-use mathlib.Core.Bool.{Bool, true, false}
+use mathlib.Core.Bool.{true, false}
 use lib.Dec.{leb}
 use lib.ListN.{length}
 use Rattle.laws.specs.Bytes.{Bytes}

@@ -5,12 +5,12 @@
 --   list-written, list-length                  the same of the message for a list
 use Prim.Native.Nat.{ℕ, zero, suc, _≤_}
 use native.Mathlib.Omega.{arith}
-use mathlib.Core.Bool.{Bool, true}
+use mathlib.Core.Bool.{true}
 use mathlib.Core.List.{List, [], _∷_}
 use mathlib.Core.Path.{_≡_, refl, sym, _∙_}
 use lib.ListN.{length, drop, length-take}
 use Rattle.laws.specs.Bytes.{Bytes}
-use Rattle.laws.specs.Lists.{count, keep, All, concat}
+use Rattle.laws.specs.Lists.{count, All, concat}
 use Rattle.laws.proofs.Counts.{All-map, All-take, All-drop, All-kept, All-gather}
 use Rattle.profile.specs.Limits.{mostBytes, mostBatches, mostCollections}
 use Rattle.tree.specs.Form.{message}

@@ -5,14 +5,13 @@
 --   this t, other t           `|`: the first of the two; the second
 --   several t ts              one or more: the trees ts; t stands in where there is none, which no message for a good list needs
 use Prim.Native.Nat.{ℕ}
-use mathlib.Core.Bool.{Bool, true, false, not, _&&_}
+use mathlib.Core.Bool.{Bool}
 use mathlib.Core.List.{List, [], _∷_}
 use lib.Dec.{T}
 use Rattle.laws.specs.Bytes.{Bytes, all}
 use Rattle.laws.specs.Lists.{putIf, keep}
 use Rattle.laws.proofs.Tests.{bool-cases, and-both}
 use Rattle.text.specs.declared.Rule.{Rule}
-use Rattle.tree.specs.declared.Kind.{Kind}
 use Rattle.tree.specs.declared.Kind.the-variants.{Holds, Text}
 use Rattle.tree.specs.Form.{Elem, Items, Tree, Kids, Run, inText, Elem.elem, Items.item, Items.none, Tree.tree, Kids.end, Kids.skip, Kids.take, How.once, How.maybe, How.any, How.oneOrMore}
 use Rattle.tree.specs.Pain008.{_or_}

@@ -4,7 +4,6 @@
 --   openingBytes cr n sum                          before the first batch, for n collections of `sum` cents
 --   messageBytes cr bs                             the whole
 use Prim.Native.Nat.{ℕ, suc}
-use Prim.Native.String.{String}
 use mathlib.Core.List.{List, [], _∷_, _++_}
 use lib.ListN.{length}
 use Rattle.laws.specs.Bytes.{Bytes, ascii}

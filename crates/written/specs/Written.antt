@@ -6,7 +6,7 @@
 --   messageOf cr bs                    the message of a creditor and its batches
 --   batchesFor s c                     the batches of the list s at the ceiling c
 --   messageFor s c                     THE MESSAGE of the list s at the ceiling c; `written s c`: its bytes
-use Prim.Native.Nat.{ℕ, suc, _+_}
+use Prim.Native.Nat.{ℕ, suc}
 use mathlib.Core.Bool.{true}
 use mathlib.Core.List.{List, [], _∷_, map}
 use lib.ListN.{length, getD}

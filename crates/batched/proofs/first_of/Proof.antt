@@ -1,5 +1,5 @@
 -- `batched::first_of` meets its contract. The invariant: none of the first i collections has the label.
-use Rattle.laws.proofs.Loops.{span-stop, span-go, span-end, span-le}
+use Rattle.laws.proofs.Loops.{span-stop, span-go, span-end}
 use Rattle.laws.specs.Bytes.{span}
 use lib.Dec.{eqb}
 use lib.ListN.{length, drop}

@@ -1,5 +1,5 @@
 -- `checking::pass` meets its contract, by what the reader answers.
-use mathlib.Core.Path.{refl, subst⁻¹}
+use mathlib.Core.Path.{subst⁻¹}
 use Rattle.state.specs.Fill.{Within}
 use Rattle.state.proofs.Bounds.{within-fresh}
 use Rattle.checking.proofs.Passes.{small, verdict-long, verdict-stuck, verdict-judged, filled-long, filled-stuck, filled}

@@ -4,24 +4,16 @@ use Rattle.desk.specs.Answers.{writtenNumbers}
 use borrow.Author.Needs.{needs}
 use Rattle.desk.proofs.desk_write.Statement.{statement}
 use Rattle.desk.proofs.desk_write.Tie as tie
-use Rattle.desk.proofs.desk_write.Reads as reads
-use Rattle.desk.proofs.desk_write.Lts as lts
-use Rattle.desk.proofs.written_numbers.Reads as written-numbers-reads
-use Rattle.write.proofs.write.Reads as write-reads
 
--- src/lib.rt:82:21
 write-requires : tie.Need-write-requires
 write-requires c κs = search needs
 
--- src/lib.rt:82:5
 written-numbers-requires : tie.Need-written-numbers-requires
 written-numbers-requires c κs = search needs
 
--- src/lib.rt:77:1
 same-length : tie.Need-same-length
 same-length c = search needs
 
--- src/lib.rt:77:1
 returns : tie.Need-returns
 returns c =
     let w = c .before .before .before .write .ensures in

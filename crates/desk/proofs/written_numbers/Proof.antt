@@ -2,32 +2,22 @@
 use borrow.Author.Needs.{needs}
 use Rattle.desk.proofs.written_numbers.Statement.{statement}
 use Rattle.desk.proofs.written_numbers.Tie as tie
-use Rattle.desk.proofs.written_numbers.Reads as reads
-use Rattle.desk.proofs.written_numbers.Lts as lts
-use Rattle.profile.proofs.ListRefusal.number.Reads as number-reads
-use Rattle.profile.proofs.ListRefusal.place.Reads as place-reads
 
--- src/lib.rt:65:25
 enum-known-written : tie.Need-enum-known-written
 enum-known-written c = search needs
 
--- src/lib.rt:69:26
 enum-known-written-2 : tie.Need-enum-known-written-2
 enum-known-written-2 c = search needs
 
--- src/lib.rt:70:21
 number-requires : tie.Need-number-requires
 number-requires c κs = search needs
 
--- src/lib.rt:71:20
 place-requires : tie.Need-place-requires
 place-requires c κs = search needs
 
--- src/lib.rt:61:1
 returns : tie.Need-returns
 returns c = rw (c .before .written .given .1)
 
--- src/lib.rt:61:1
 returns-2 : tie.Need-returns-2
 returns-2 c = rw (c .before .number .ensures, c .place .ensures, c .before .before .before .written2 .given .1)
 

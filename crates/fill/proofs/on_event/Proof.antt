@@ -1,7 +1,5 @@
 -- `fill::on_event` meets its contract: what the event says is said in the kept row, or its step is taken.
-use mathlib.Core.Path.{subst⁻¹, sym}
-use Rattle.state.specs.Fill.{Within}
-use Rattle.kept.specs.Kept.{keptLength, stateOf}
+use Rattle.kept.specs.Kept.{stateOf}
 use Rattle.fill.proofs.Fills.{told-fits, told-within, told-step, said-no, said-within, said-carried, unsaid}
 use borrow.Author.Needs.{needs}
 use Rattle.fill.proofs.on_event.Statement.{statement}

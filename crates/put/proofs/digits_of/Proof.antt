@@ -4,7 +4,7 @@ use Rattle.put.specs.Numerals.{digit, decimalOf, decimal}
 use Rattle.laws.specs.Bytes.{Bytes}
 use lib.ListN.{length, drop, set, length-set, drop-of-length-le}
 use mathlib.Core.List.{[], _∷_, _++_, append-assoc, append-nil}
-use mathlib.Core.Path.{_≡_, refl, ap, sym, _∙_}
+use mathlib.Core.Path.{_≡_, sym, _∙_}
 use native.Mathlib.Omega.{arith}
 use Prim.Native.Nat.{ℕ, _-_, _/_, _≤_, _<_}
 use borrow.Author.Needs.{needs}

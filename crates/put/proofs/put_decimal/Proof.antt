@@ -1,5 +1,4 @@
 -- `put::put_decimal` meets its contract.
-use Rattle.put.specs.Numerals.{decimal}
 use Rattle.put.specs.Wrote.{Wrote}
 use Rattle.laws.proofs.Loops.{drop-part}
 use Rattle.laws.specs.Bytes.{Bytes}

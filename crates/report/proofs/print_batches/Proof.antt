@@ -4,9 +4,6 @@ use lib.ListN.{length}
 use borrow.Author.Needs.{needs}
 use Rattle.report.proofs.print_batches.Statement.{statement}
 use Rattle.report.proofs.print_batches.Tie as tie
-use Rattle.report.proofs.print_batches.Reads as reads
-use Rattle.report.proofs.print_batches.Lts as lts
-use Rattle.report.proofs.print_batch.Reads as print-batch-reads
 
 abbrev Inv-loop : tie.InvT-loop
 Inv-loop batches rows k₀ at₀ k at = at ≤ length rows
@@ -14,59 +11,45 @@ Inv-loop batches rows k₀ at₀ k at = at ≤ length rows
 abbrev μ-loop : tie.MeasureT-loop
 μ-loop batches rows k₀ at₀ k at = batches - k
 
--- src/lib.rt:45:5
 loop-holds : tie.Need-loop-holds Inv-loop μ-loop
 loop-holds c = search needs
 
--- src/lib.rt:46:12
 sub-if1 : tie.Need-sub-if1 Inv-loop μ-loop
 sub-if1 c = search needs
 
--- src/lib.rt:47:13
 returns : tie.Need-returns Inv-loop μ-loop
 returns c = search needs
 
--- src/lib.rt:49:9
 add-k : tie.Need-add-k Inv-loop μ-loop
 add-k c = search needs
 
--- src/lib.rt:50:34
 add-print-batch : tie.Need-add-print-batch Inv-loop μ-loop
 add-print-batch c = search needs
 
--- src/lib.rt:50:24
 mul-print-batch : tie.Need-mul-print-batch Inv-loop μ-loop
 mul-print-batch c = search needs
 
--- src/lib.rt:50:24
 sub-print-batch : tie.Need-sub-print-batch Inv-loop μ-loop
 sub-print-batch c = search needs
 
--- src/lib.rt:50:24
 part-print-batch-start : tie.Need-part-print-batch-start Inv-loop μ-loop
 part-print-batch-start c = search needs
 
--- src/lib.rt:50:24
 part-print-batch-end : tie.Need-part-print-batch-end Inv-loop μ-loop
 part-print-batch-end c = search needs
 
--- src/lib.rt:50:9
 print-batch-requires : tie.Need-print-batch-requires Inv-loop μ-loop
 print-batch-requires c κs = search needs
 
--- src/lib.rt:51:9
 add-at : tie.Need-add-at Inv-loop μ-loop
 add-at c = search needs
 
--- src/lib.rt:45:5
 loop-less : tie.Need-loop-less Inv-loop μ-loop
 loop-less c = search needs
 
--- src/lib.rt:45:5
 loop-again : tie.Need-loop-again Inv-loop μ-loop
 loop-again c = search needs
 
--- src/lib.rt:42:1
 returns-2 : tie.Need-returns-2 Inv-loop μ-loop
 returns-2 c = search needs
 

@@ -4,10 +4,6 @@ use lib.ListN.{length}
 use borrow.Author.Needs.{needs}
 use Rattle.rooms.proofs.print_table.Statement.{statement}
 use Rattle.rooms.proofs.print_table.Tie as tie
-use Rattle.rooms.proofs.print_table.Reads as reads
-use Rattle.rooms.proofs.print_table.Lts as lts
-use Rattle.prints.proofs.print.Reads as print-reads
-use Rattle.prints.proofs.print_number.Reads as print-number-reads
 
 abbrev Inv-loop : tie.InvT-loop
 Inv-loop table i₀ t3 i = i ≤ length table
@@ -15,43 +11,33 @@ Inv-loop table i₀ t3 i = i ≤ length table
 abbrev μ-loop : tie.MeasureT-loop
 μ-loop table i₀ t3 i = length table - i
 
--- src/main.rt:8:5
 loop-holds : tie.Need-loop-holds Inv-loop μ-loop
 loop-holds c = search needs
 
--- src/main.rt:9:30
 mul-print-number : tie.Need-mul-print-number Inv-loop μ-loop
 mul-print-number c = search needs
 
--- src/main.rt:9:30
 shared-slice-read-print-number : tie.Need-shared-slice-read-print-number Inv-loop μ-loop
 shared-slice-read-print-number c = search needs
 
--- src/main.rt:9:9
 print-number-requires : tie.Need-print-number-requires Inv-loop μ-loop
 print-number-requires c κs = search needs
 
--- src/main.rt:10:9
 add-i : tie.Need-add-i Inv-loop μ-loop
 add-i c = search needs
 
--- src/main.rt:8:5
 loop-less : tie.Need-loop-less Inv-loop μ-loop
 loop-less c = search needs
 
--- src/main.rt:8:5
 loop-again : tie.Need-loop-again Inv-loop μ-loop
 loop-again c = search needs
 
--- src/main.rt:12:19
 slice-aggregate-print : tie.Need-slice-aggregate-print Inv-loop μ-loop
 slice-aggregate-print c = search needs
 
--- src/main.rt:12:5
 print-requires : tie.Need-print-requires Inv-loop μ-loop
 print-requires c κs = search needs
 
--- src/main.rt:6:1
 returns : tie.Need-returns Inv-loop μ-loop
 returns c = search needs
 

@@ -5,23 +5,16 @@ use lib.Seq.{length-take-le}
 use borrow.Author.Needs.{needs}
 use Rattle.writer.proofs.print_front.Statement.{statement}
 use Rattle.writer.proofs.print_front.Tie as tie
-use Rattle.writer.proofs.print_front.Reads as reads
-use Rattle.writer.proofs.print_front.Lts as lts
-use Rattle.prints.proofs.print.Reads as print-reads
 
--- src/main.rt:38:9
 returns : tie.Need-returns
 returns c = search needs
 
--- src/main.rt:40:11
 slice-aggregate-print : tie.Need-slice-aggregate-print
 slice-aggregate-print c = sym (length-take-le _ _ (omega arith))
 
--- src/main.rt:40:5
 print-requires : tie.Need-print-requires
 print-requires c κs = search needs
 
--- src/main.rt:36:1
 returns-2 : tie.Need-returns-2
 returns-2 c = search needs
 

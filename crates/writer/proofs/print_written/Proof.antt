@@ -1,45 +1,31 @@
 use borrow.Author.Needs.{needs}
 use Rattle.writer.proofs.print_written.Statement.{statement}
 use Rattle.writer.proofs.print_written.Tie as tie
-use Rattle.writer.proofs.print_written.Reads as reads
-use Rattle.writer.proofs.print_written.Lts as lts
-use Rattle.write.proofs.write.Reads as write-reads
-use Rattle.writer.proofs.print_front.Reads as print-front-reads
-use Rattle.writer.proofs.print_refusal.Reads as print-refusal-reads
 
--- src/main.rt:45:39
 slice-aggregate-write : tie.Need-slice-aggregate-write
 slice-aggregate-write c = search needs
 
--- src/main.rt:45:11
 write-requires : tie.Need-write-requires
 write-requires c κs = search needs
 
--- src/main.rt:46:25
 enum-known-length : tie.Need-enum-known-length
 enum-known-length c = search needs
 
--- src/main.rt:46:48
 slice-aggregate-print-front : tie.Need-slice-aggregate-print-front
 slice-aggregate-print-front c = search needs
 
--- src/main.rt:46:36
 print-front-requires : tie.Need-print-front-requires
 print-front-requires c κs = search needs
 
--- src/main.rt:47:26
 enum-known-refusal : tie.Need-enum-known-refusal
 enum-known-refusal c = search needs
 
--- src/main.rt:47:38
 print-refusal-requires : tie.Need-print-refusal-requires
 print-refusal-requires c κs = search needs
 
--- src/main.rt:43:1
 returns : tie.Need-returns
 returns c = search needs
 
--- src/main.rt:43:1
 returns-2 : tie.Need-returns-2
 returns-2 c = search needs
 

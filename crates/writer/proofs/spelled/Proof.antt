@@ -4,10 +4,6 @@ use lib.ListN.{length}
 use borrow.Author.Needs.{needs}
 use Rattle.writer.proofs.spelled.Statement.{statement}
 use Rattle.writer.proofs.spelled.Tie as tie
-use Rattle.writer.proofs.spelled.Reads as reads
-use Rattle.writer.proofs.spelled.Lts as lts
-use Rattle.frames.proofs.hex.hex_value.Reads as hex-value-reads
-use Rattle.marks.proofs.wide.Reads as wide-reads
 
 abbrev Inv-loop : tie.InvT-loop
 Inv-loop digits v₀ i₀ v i = i ≤ length digits
@@ -15,43 +11,33 @@ Inv-loop digits v₀ i₀ v i = i ≤ length digits
 abbrev μ-loop : tie.MeasureT-loop
 μ-loop digits v₀ i₀ v i = length digits - i
 
--- src/main.rt:63:5
 loop-holds : tie.Need-loop-holds Inv-loop μ-loop
 loop-holds c = search needs
 
--- src/main.rt:65:17
 mul-v : tie.Need-mul-v Inv-loop μ-loop
 mul-v c = search needs
 
--- src/main.rt:65:54
 shared-slice-read-hex-value : tie.Need-shared-slice-read-hex-value Inv-loop μ-loop
 shared-slice-read-hex-value c = search needs
 
--- src/main.rt:65:31
 hex-value-requires : tie.Need-hex-value-requires Inv-loop μ-loop
 hex-value-requires c κs = search needs
 
--- src/main.rt:65:26
 wide-requires : tie.Need-wide-requires Inv-loop μ-loop
 wide-requires c κs = search needs
 
--- src/main.rt:65:17
 add-v : tie.Need-add-v Inv-loop μ-loop
 add-v c = search needs
 
--- src/main.rt:67:9
 add-i : tie.Need-add-i Inv-loop μ-loop
 add-i c = search needs
 
--- src/main.rt:63:5
 loop-less : tie.Need-loop-less Inv-loop μ-loop
 loop-less c = search needs
 
--- src/main.rt:63:5
 loop-again : tie.Need-loop-again Inv-loop μ-loop
 loop-again c = search needs
 
--- src/main.rt:60:1
 returns : tie.Need-returns Inv-loop μ-loop
 returns c = search needs
 

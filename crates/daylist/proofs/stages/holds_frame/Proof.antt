@@ -3,7 +3,6 @@ use Rattle.frames.specs.Frames.{framed}
 use Rattle.frames.specs.Hex.{unhex}
 use Rattle.frames.specs.declared.Frame.{Frame}
 use borrow.Author.Tests.{not-true, not-false}
-use mathlib.Core.Bool.{_&&_}
 use mathlib.Core.Path.{sym, _∙_, ap}
 use borrow.Author.Needs.{needs}
 use Rattle.daylist.proofs.stages.holds_frame.Statement.{statement}

@@ -4,7 +4,7 @@ use Rattle.frames.proofs.Digits.{unhex-length, unhex-at, value-under}
 use Rattle.frames.proofs.Strides.{set-go}
 use lib.ListN.{length, getD, length-set}
 use lib.Seq.{ext-getD}
-use mathlib.Core.Path.{_≡_, refl, sym, _∙_}
+use mathlib.Core.Path.{_≡_, refl, sym}
 use native.Mathlib.Omega.{arith}
 use Prim.Native.Nat.{ℕ, _+_, _*_, _-_, _/_, _<_}
 use borrow.Author.Needs.{needs}

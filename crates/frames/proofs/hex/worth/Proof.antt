@@ -4,7 +4,6 @@ use Rattle.marks.proofs.Classes.{between-low, between-high}
 use mathlib.Core.Path.{sym}
 use native.Mathlib.Omega.{arith}
 use Prim.Native.Nat.{_<_}
-use borrow.Author.Needs.{needs}
 use Rattle.frames.proofs.hex.worth.Statement.{statement}
 use Rattle.frames.proofs.hex.worth.Tie as tie
 

@@ -5,7 +5,7 @@ use Rattle.laws.specs.Bytes.{all}
 use borrow.Author.Tests.{eq-eqb, ne-eqb}
 use mathlib.Core.Bool.{_&&_, and-true, and-false}
 use mathlib.Core.Logic.{⊎-elim}
-use mathlib.Core.Path.{_≡_, refl, sym}
+use mathlib.Core.Path.{_≡_, refl}
 use lib.Dec.{eqb}
 use lib.ListN.{length, drop, getD}
 use Prim.Native.Nat.{_-_}

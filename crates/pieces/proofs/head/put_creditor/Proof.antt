@@ -2,7 +2,6 @@
 use Rattle.put.proofs.Writes.{wrote-then}
 use native.Mathlib.Omega.{arith}
 use mathlib.Core.Path.{refl}
-use borrow.Author.Needs.{needs}
 use Rattle.pieces.proofs.head.put_creditor.Statement.{statement}
 use Rattle.pieces.proofs.head.put_creditor.Tie as tie
 

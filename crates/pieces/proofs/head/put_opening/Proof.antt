@@ -3,7 +3,6 @@ use Rattle.put.proofs.Writes.{wrote-then}
 use native.Mathlib.Omega.{arith}
 use Rattle.pieces.proofs.Choices.{opening-join}
 use mathlib.Core.Path.{refl}
-use borrow.Author.Needs.{needs}
 use Rattle.pieces.proofs.head.put_opening.Statement.{statement}
 use Rattle.pieces.proofs.head.put_opening.Tie as tie
 
