@@ -74,10 +74,11 @@ module _ (lo hi : ℕ) where
 
 -- ─── 2. The stages before 6, and from 6 on ───
 
--- o finds nothing where what is found first of o and the rest has a number from 6 on, and o's has not
+-- a fault that was found has a number from 6 on
 Late : Option Fault → Type 0
 Late o = (f : Fault) → o ≡ some f → 6 ≤ f .number
 
+-- where that holds of o and the rest, a stage o that finds smaller numbers alone finds nothing
 early : (o rest : Option Fault) → Among 0 5 o → Late (orElse o rest) → (o ≡ none) × Late rest
 unfolding Among Late
 early none rest x h = (refl, h)

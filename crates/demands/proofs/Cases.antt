@@ -1,6 +1,6 @@
 -- THE CASES OF THE DEFINITIONS, of the check's promise: every outcome for a message of message/proofs/Cases tells the number and the place that the case has.
 --   answer-read   the verdict of the check is what the definitions compute of the message as it is read
---   cases-hold
+--   cases-hold    so each case holds of every outcome that the promise allows
 use Prim.Native.Nat.{ℕ, _≤_}
 use native.Mathlib.Omega.{arith}
 use mathlib.Core.Bool.{Bool, _&&_}
@@ -29,18 +29,19 @@ module _ (s : Bytes) (slips rows : List ℕ) (v : Verdict) (a b : List ℕ) wher
   pub answer-read : Checks s slips rows v a b → length s ≤ mostBytes → v ≡ verdictRead s (roomOf slips rows) (read declaration Document s)
   answer-read h l = go (h .case)
     where
-      at-place : (n : ℕ) (q : Stuck s slips rows v a b) (o : Res) → Promise declaration Document s o → refused (fault 2 (q .place)) ≡ verdictRead s (roomOf slips rows) o
-      at-place n q (done es) p = absurd (q .not-of-form .0 (p .0, p .1))
-      at-place n q (stuck m) p = ap (λ (k : ℕ). refused (fault 2 k)) (place-one s (q .place) m (q .not-of-form .1) (p .1))
+      at-place : (q : Stuck s slips rows v a b) (o : Res) → Promise declaration Document s o → refused (fault 2 (q .place)) ≡ verdictRead s (roomOf slips rows) o
+      at-place q (done es) p = absurd (q .not-of-form .0 (p .0, p .1))
+      at-place q (stuck m) p = ap (λ (k : ℕ). refused (fault 2 k)) (place-one s (q .place) m (q .not-of-form .1) (p .1))
 
       go : Long s slips rows v a b ⊎ (Stuck s slips rows v a b ⊎ Judged s slips rows v a b) → v ≡ verdictRead s (roomOf slips rows) (read declaration Document s)
       go (inl q) = absurd (omega (arith, q .long))
-      go (inr (inl q)) = q .answer ∙ at-place 0 q (read declaration Document s) (read-right s)
+      go (inr (inl q)) = q .answer ∙ at-place q (read declaration Document s) (read-right s)
       go (inr (inr q)) =
           q .answer
           ∙ sym (ap (verdictRead (message declaration (q .read)) (roomOf slips rows)) (read-all (q .read)))
           ∙ ap (λ (u : Bytes). verdictRead u (roomOf slips rows) (read declaration Document u)) (q .bytes)
 
+-- every outcome of the check for the message and such tables tells the number and the place
 Answers : Case → Type 0
 Answers c = (slips rows : List ℕ) (v : Verdict) (a b : List ℕ) → length slips ≡ c .slips → length rows ≡ c .rows → Checks (c .message) slips rows v a b
     → (toldAs v .number ≡ c .number) × (toldAs v .place ≡ c .place)
