@@ -5,7 +5,10 @@
 --   Check, DeskCheck, Write, DeskWrite   y is an outcome that the promise of `check`, `desk_check`, `write`, `desk_write` allows for x
 --   checkTold, writeTold                 the answers of `check` and `write` in numbers
 --   Demand1, Demand2, Demand3            the demands, of an operation whose answers are told in numbers by `told`
+--   Tells, RowTells, RowsTell            what a row tells of a declaration, and of a batch; the rows of all batches
+--   LongEnough t m                       the tables t are long enough for the message m
 --   FixedMessage, FewestBatches          what demands 2 and 3 ask of a written message
+--   MeetsNone n                          n is the number of none of the refusals 21 to 26
 --   Demands                              THE CLAIM, of the four operations
 use Prim.Native.Nat.{ℕ, _*_, _≤_}
 use mathlib.Core.List.{List, [], _∷_}
@@ -102,7 +105,6 @@ abbrev pub RowsTell : List Batch → List ℕ → Type 0
 RowsTell [] rows = Unit {0}
 RowsTell (b ∷ bs) rows = RowTells b (take 8 rows) × RowsTell bs (drop 8 rows)
 
--- the tables are long enough for the message m
 abbrev pub LongEnough : Tables → Message Document → Type 0
 LongEnough t m = Enough (roomOf (t .slips) (t .rows)) (saidBy m)
 
@@ -146,7 +148,6 @@ pub record FixedMessage (s : Bytes) (c n : ℕ) (out out′ : Bytes) : Type 0 wh
 
 -- ─── demand 3 ───
 
--- a number of none of the refusals 21 to 26
 abbrev pub MeetsNone : ℕ → Type 0
 MeetsNone n = 21 ≤ n → n ≤ 26 → ⊥
 

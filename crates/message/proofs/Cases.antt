@@ -7,7 +7,7 @@
 use Prim.Native.Nat.{ℕ, zero, suc, _+_}
 use Prim.Native.String.{String}
 use mathlib.Core.Bool.{Bool, _&&_}
-use mathlib.Core.List.{List, [], _∷_, _++_, map}
+use mathlib.Core.List.{List, [], _∷_, _++_}
 use mathlib.Core.Path.{_≡_, refl}
 use lib.Dec.{T, eqb}
 use lib.ListN.{take, drop}
@@ -99,14 +99,14 @@ cases-right = tt
 abbrev element : ℕ → ℕ → Told
 element p n = record { part = p; place = n; start = n + 1; length = 0; judged = Good 0 }
 
--- the places from k on, n of them
-abbrev places : ℕ → ℕ → List ℕ
-places k zero = []
-places k (suc n) = k ∷ places (suc k) n
+-- n elements of the part p, at the places from k on
+abbrev elementsFrom : ℕ → ℕ → ℕ → List Told
+elementsFrom k p zero = []
+elementsFrom k p (suc n) = element p k ∷ elementsFrom (suc k) p n
 
 -- the batches, or transactions, at the places 1 to n
 abbrev elements : ℕ → ℕ → List Told
-elements p n = map (element p) (places 1 n)
+elements p n = elementsFrom 1 p n
 
 abbrev enough : Room
 enough = record { slips = 24_000; rows = 512 }
