@@ -74,14 +74,14 @@ module _ (s : Bytes) (slips rows : List ℕ) (st : State) (a b : List ℕ) where
     pub bytes : message declaration read ≡ s
     pub ends : fold carryStep begun (saidBy read) ≡ behind
 
-  read-said : ReadRight s begun WasRead behind → Read
+  read-said : ReadRight Document s begun WasRead behind → Read
   unfolding ReadRight
   read-said (h, (m, e, f)) =
       record { short = h; read = m; bytes = e; ends = ap (λ (x : Bytes). fold carryStep begun (tell x (messageEvents declaration m))) e ∙ sym (carried s begun (messageEvents declaration m)) ∙ f }
 
 -- what reading promises, with the state that it began with, the answer that it gave, and the state behind it
 abbrev Reads : Bytes → State → List ℕ → List ℕ → Outcome → State → List ℕ → List ℕ → Type 0
-Reads s f slips rows o st a b = ReadRight s (record { state = f; slips = slips; rows = rows }) o (record { state = st; slips = a; rows = b })
+Reads s f slips rows o st a b = ReadRight Document s (record { state = f; slips = slips; rows = rows }) o (record { state = st; slips = a; rows = b })
 
 module _ (s : Bytes) (slips rows a b : List ℕ) (f st : State) (o : Outcome) (g : f ≡ fresh) (h : Reads s f slips rows o st a b) where
   seen : (x : Outcome) → o ≡ x → Reads s fresh slips rows x st a b

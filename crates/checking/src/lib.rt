@@ -1,4 +1,7 @@
 // The check of a message.
+ghost use lib.Dec.{T};
+ghost use Rattle.tree.specs.Pain008.{Document};
+ghost use Rattle.plan.specs.Held.{holdsElem};
 ghost use Rattle.answer.specs.Said.{said};
 ghost use Rattle.checked.specs.Check.{Checks};
 ghost use Rattle.checking.specs.Inner.{Verdicts, Fills};
@@ -16,14 +19,22 @@ const BRIEF_ROWS: usize = 8 * Profile::ROW;
 // The slips of a short message have room for 200 transactions, its rows for every batch.
 const SHORT_SLIPS: usize = 200 * Profile::SLIP;
 
-// One pass over a message: its slips and rows into the tables `a` and `b`, where these have room for them, and the verdict on it with tables of `slips` and
-// `rows` numbers.
-fn pass(message: &[u8], a: &mut [u64], b: &mut [u64], slips: usize, rows: usize) -> Checked
+// One pass over a message, by the table `t` of its description: its slips and rows into the tables `a` and `b`, where these have room for them, and the verdict on
+// it with tables of `slips` and `rows` numbers.
+fn pass(
+    message: &[u8],
+    t: &[u8],
+    a: &mut [u64],
+    b: &mut [u64],
+    slips: usize,
+    rows: usize,
+) -> Checked
+    requires { ⌜ T (holdsElem (now t) 0 Document) ⌝ }
     ensures verdict { λ r. ⌜ Verdicts (now (message .entry)) (record { slips = slips; rows = rows }) r ⌝ }
     ensures fills { λ r. ⌜ Fills (now (message .entry)) (now (a .entry)) (now (b .entry)) (now (a .exit)) (now (b .exit)) ⌝ }
 {
     let mut kept = kept::fresh();
-    match reader::read(message, &mut kept, a, b) {
+    match reader::read(message, t, &mut kept, a, b) {
         Outcome::TooLong => Checked::Refused(Refusal::TooLong),
         Outcome::Stuck(place) => Checked::Refused(Refusal::NotOfTheForm(place)),
         Outcome::Read => {
@@ -45,9 +56,10 @@ fn check_beside(
 ) -> Checked
     ensures { λ r. ⌜ Checks (now (message .entry)) (now (slips .entry)) (now (rows .entry)) (said r) (now (slips .exit)) (now (rows .exit)) ⌝ }
 {
+    let t = pain008::table();
     let k = slips.len();
     let l = rows.len();
-    let checked = pass(message, a, b, k, l);
+    let checked = pass(message, &t, a, b, k, l);
     match checked {
         Checked::Refused(refusal) => Checked::Refused(refusal),
         Checked::Accepted(totals) => {
@@ -60,7 +72,7 @@ fn check_beside(
                     return Checked::Accepted(totals);
                 }
             }
-            pass(message, slips, rows, k, l);
+            pass(message, &t, slips, rows, k, l);
             Checked::Accepted(totals)
         }
     }

@@ -1,3 +1,0 @@
--- Table   the rows of the profile tree      Held   that the tables hold it
-pub mod Table
-pub mod Held

@@ -1,2 +1,0 @@
--- Tags   the elements of the profile tree by number, and their tags
-pub mod Tags
