@@ -1,5 +1,5 @@
 -- WHAT A CLASS SAYS OF A BYTE, and each class by cases.
---   class-at                    where every byte is of a class, the one at i is
+--   class-at, class-part        where every byte is of a class, the one at i is, and so is every byte of a part
 --   all-and-go, all-and-end     a loop that goes through every byte: at the index i it takes one more, or is at the end
 --   between-low, between-high   a byte from a to b is at least a, at most b
 --   small-low                   a letter or digit that is neither digit nor capital is small
@@ -15,11 +15,11 @@ use mathlib.Core.Bool.{Bool, true, false, not, _&&_, _||_, Bool·beq}
 use mathlib.Core.List.{[], _∷_}
 use mathlib.Core.Path.{_≡_, refl, sym}
 use lib.Dec.{T, eqb, leb}
-use lib.ListN.{length, drop, getD}
+use lib.ListN.{length, take, drop, getD}
 use borrow.Author.Tests.{leb-true, ne-eqb}
 use Rattle.laws.specs.Bytes.{Bytes, between, all}
 use Rattle.laws.proofs.Tests.{and-l, and-r, and-both, T-true, true-T, bool-cases}
-use Rattle.laws.proofs.Loops.{drop-step, all-end, all-at}
+use Rattle.laws.proofs.Loops.{drop-step, all-end, all-at, all-take, all-drop}
 use Rattle.laws.proofs.Below.{every, below, within}
 use Rattle.marks.specs.Marks.{digit, capital, small, letterOrDigit, letter, mark, fits, letterValue}
 
@@ -27,6 +27,9 @@ use Rattle.marks.specs.Marks.{digit, capital, small, letterOrDigit, lett
 
 pub class-at : (p : ℕ → Bool) (s : Bytes) (i : ℕ) → all p s ≡ true → i < length s → p (getD s i 0) ≡ true
 class-at p s i e h = T-true (p (getD s i 0)) (all-at p s i (true-T (all p s) e) h)
+
+pub class-part : (p : ℕ → Bool) (s : Bytes) (n i : ℕ) → all p s ≡ true → all p (take n (drop i s)) ≡ true
+class-part p s n i e = T-true (all p (take n (drop i s))) (all-take p n (drop i s) (all-drop p i s (true-T (all p s) e)))
 
 -- a loop that goes through every byte, b telling of those before i
 module _ (p : ℕ → Bool) (s : Bytes) (i : ℕ) where

@@ -228,10 +228,10 @@ pub fn letter_number(c: u8) -> u64
     wide(c) - 87
 }
 
-// What the number spelled so far leaves on division by 97, once the text follows it.
-pub fn remainder(left: u64, text: &[u8]) -> u64
-    requires { ⌜ (left < 97) × (all letterOrDigit (now text) ≡ true) ⌝ }
-    ensures { λ r. ⌜ r ≡ spelledFrom left (now (text .entry)) % 97 ⌝ }
+// The number so far followed by a text of at most eight letters and digits.
+fn spelled(left: u64, text: &[u8]) -> u64
+    requires { ⌜ (left < 97) × ((length (now text) ≤ 8) × (all letterOrDigit (now text) ≡ true)) ⌝ }
+    ensures { λ r. ⌜ r ≡ spelledFrom left (now (text .entry)) ⌝ }
 {
     let mut v = left;
     let mut i = 0;
@@ -243,11 +243,21 @@ pub fn remainder(left: u64, text: &[u8]) -> u64
         } else {
             v = v * 100 + n;
         }
-        // Divided only where two digits more might not fit.
-        if 10000000000000000 < v {
-            v = v % 97;
-        }
         i += 1;
     }
-    v % 97
+    v
+}
+
+// What the number spelled so far leaves on division by 97, once the text follows it. It is divided once for eight bytes.
+pub fn remainder(left: u64, text: &[u8]) -> u64
+    requires { ⌜ (left < 97) × (all letterOrDigit (now text) ≡ true) ⌝ }
+    ensures { λ r. ⌜ r ≡ spelledFrom left (now (text .entry)) % 97 ⌝ }
+{
+    let mut v = left;
+    let mut i = 0;
+    while 8 < text.len() - i {
+        v = spelled(v, &text[i..i + 8]) % 97;
+        i += 8;
+    }
+    spelled(v, &text[i..]) % 97
 }

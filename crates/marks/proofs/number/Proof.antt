@@ -7,7 +7,7 @@ use lib.ListN.{length, drop, getD}
 use borrow.Author.Needs.{needs}
 use Rattle.marks.specs.Marks.{digit, value, valueFrom}
 use Rattle.marks.proofs.Classes.{between-low, class-at}
-use Rattle.marks.proofs.Numbers.{value-go, value-end, digit-more, digits-under}
+use Rattle.marks.proofs.Numbers.{value-go, value-end, digit-more, power-under}
 use Rattle.marks.proofs.number.Statement.{statement}
 use Rattle.marks.proofs.number.Tie as tie
 
@@ -25,7 +25,7 @@ loop-holds : tie.Need-loop-holds Inv-loop μ-loop
 loop-holds c = (omega arith, refl)
 
 mul-v : tie.Need-mul-v Inv-loop μ-loop
-mul-v c = let l = c .before .loop in omega (arith, digits-under (l .v) (l .i) (l .inv .0) 15 (omega arith))
+mul-v c = let l = c .before .loop in omega (arith, power-under 10 (l .v) (l .i) 15 (omega arith) (l .inv .0) (omega arith))
 
 shared-slice-read-wide : tie.Need-shared-slice-read-wide Inv-loop μ-loop
 shared-slice-read-wide c = search needs
@@ -39,7 +39,7 @@ sub-v c = rw (c .wide .ensures) (between-low 48 57 _ (at-i c))
 add-v : tie.Need-add-v Inv-loop μ-loop
 add-v c =
     let l = c .before .before .before .loop in
-    omega (arith, digits-under (l .v) (l .i) (l .inv .0) 15 (omega arith), c .wide .ensures, c .before .shared-slice-known2 .given (l .i))
+    omega (arith, power-under 10 (l .v) (l .i) 15 (omega arith) (l .inv .0) (omega arith), c .wide .ensures, c .before .shared-slice-known2 .given (l .i))
 
 add-i : tie.Need-add-i Inv-loop μ-loop
 add-i c = search needs

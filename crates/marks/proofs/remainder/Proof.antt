@@ -1,72 +1,55 @@
--- `marks::remainder` meets its contract. The invariant: v has room for one letter or digit more, and with the text from i on it leaves what `left` leaves with the whole.
-use Prim.Native.Nat.{_+_, _-_, _*_, _^_, _≤_, _<_, _%_}
-use native.Mathlib.Nat.{mod-lt, mod-mod}
+-- `marks::remainder` meets its contract. The invariant: v is a remainder, and with the text from i on it leaves what `left` leaves with the whole.
+use Prim.Native.Nat.{ℕ, _+_, _-_, _≤_, _<_, _%_}
+use native.Mathlib.Nat.{mod-lt}
 use native.Mathlib.Omega.{arith}
-use mathlib.Core.Logic.{inl, inr}
+use mathlib.Core.Bool.{true}
 use mathlib.Core.Path.{_≡_, refl, sym, _∙_}
-use lib.ListN.{length, drop, getD}
+use lib.ListN.{length, take, drop, length-take}
 use borrow.Author.Needs.{needs}
-use Rattle.marks.specs.Marks.{letterOrDigit, letterValue, spelledFrom}
-use Rattle.marks.proofs.Classes.{class-at, value-le}
-use Rattle.marks.proofs.Numbers.{shift, shift-digit, shift-letter, remainder-go, remainder-end}
+use Rattle.laws.specs.Bytes.{all}
+use Rattle.laws.proofs.Loops.{drop-part}
+use Rattle.marks.specs.Marks.{letterOrDigit, spelledFrom}
+use Rattle.marks.proofs.Classes.{class-part}
+use Rattle.marks.proofs.Numbers.{remainder-go}
 use Rattle.marks.proofs.remainder.Statement.{statement}
 use Rattle.marks.proofs.remainder.Tie as tie
 
 abbrev Inv-loop : tie.InvT-loop
-Inv-loop left text v₀ i₀ v i = (v ≤ 10 ^ 16) × (spelledFrom left text % 97 ≡ spelledFrom v (drop i text) % 97)
+Inv-loop left text v₀ i₀ v i = (v < 97) × ((i ≤ length text) × (spelledFrom left text % 97 ≡ spelledFrom v (drop i text) % 97))
 
 abbrev μ-loop : tie.MeasureT-loop
 μ-loop left text v₀ i₀ v i = length text - i
 
--- a letter or digit is read as no more than its byte
-value-fits : (c : tie.After-is-digit Inv-loop μ-loop) → c .before .letter-number .result < 256
-value-fits c =
-    let i = c .before .before .before .before .loop .i in
-    omega (arith, c .before .letter-number .ensures, value-le (getD (c .before .before .before .before .before .before .args .text .now) i 0), c .before .before .shared-slice-known2 .given i)
-
--- what v is after the branch
-next :
-    (c : tie.Joined1 Inv-loop μ-loop) →
-    (let l = c .before .before .before .before .before .loop in let x = getD (c .before .before .before .before .before .before .before .args .text .now) (l .i) 0 in c .if1 .v ≡ l .v * shift x + letterValue x)
-next c =
-    elim (c .if1 .came) [
-      | inl w ↦ w .1 ∙ rw (c .before .before .letter-number .ensures, shift-digit _ (sym (c .before .is-digit .ensures) ∙ w .0 .taken))
-      | inr w ↦ w .1 ∙ rw (c .before .before .letter-number .ensures, shift-letter _ (sym (c .before .is-digit .ensures) ∙ w .0 .left))
-    ]
-
--- what is left of it where it is divided
-kept : (c : tie.Joined2 Inv-loop μ-loop) → (c .if2 .v ≤ 10 ^ 16) × (c .if2 .v % 97 ≡ c .before .if1 .v % 97)
-kept c =
-    elim (c .if2 .came) [
-      | inl w ↦ rw (w .2) (omega (arith, mod-lt (c .before .if1 .v) {m = 97} (omega arith)), mod-mod (c .before .if1 .v) 97)
-      | inr w ↦ rw (w .1) (w .0 .left, refl)
-    ]
+-- the part from i to e is one that `spelled` takes
+brief :
+    (c : tie.At-loop Inv-loop μ-loop) (e : ℕ) →
+    (let l = c .loop in let part = take (e - l .i) (drop (l .i) (c .before .before .args .text .now)) in e ≤ l .i + 8 → (l .v < 97) × ((length part ≤ 8) × (all letterOrDigit part ≡ true)))
+brief c e h =
+    let x = c .before .before in
+    (c .loop .inv .0, (simp length-take (omega arith), class-part letterOrDigit (x .args .text .now) (e - c .loop .i) (c .loop .i) (x .pre .1)))
 
 loop-holds : tie.Need-loop-holds Inv-loop μ-loop
-loop-holds c = (omega arith, refl)
+loop-holds c = (c .before .pre .0, (omega arith, refl))
 
-shared-slice-read-c : tie.Need-shared-slice-read-c Inv-loop μ-loop
-shared-slice-read-c c = search needs
+sub-loop : tie.Need-sub-loop Inv-loop μ-loop
+sub-loop c = search needs
 
-letter-number-requires : tie.Need-letter-number-requires Inv-loop μ-loop
-letter-number-requires c κs =
-    let x = c .before .before .before .before in
-    class-at letterOrDigit (x .args .text .now) (c .before .before .loop .i) (x .pre .1) (c .before .loop-test .taken)
+add-spelled : tie.Need-add-spelled Inv-loop μ-loop
+add-spelled c = search needs
 
-is-digit-requires : tie.Need-is-digit-requires Inv-loop μ-loop
-is-digit-requires c κs = search needs
+sub-spelled : tie.Need-sub-spelled Inv-loop μ-loop
+sub-spelled c = search needs
 
-mul-v : tie.Need-mul-v Inv-loop μ-loop
-mul-v c = search needs
+part-spelled-start : tie.Need-part-spelled-start Inv-loop μ-loop
+part-spelled-start c = search needs
 
-add-v : tie.Need-add-v Inv-loop μ-loop
-add-v c = omega (arith, value-fits (c .before))
+part-spelled-end : tie.Need-part-spelled-end Inv-loop μ-loop
+part-spelled-end c = search needs
 
-mul-v-2 : tie.Need-mul-v-2 Inv-loop μ-loop
-mul-v-2 c = search needs
-
-add-v-2 : tie.Need-add-v-2 Inv-loop μ-loop
-add-v-2 c = omega (arith, value-fits (c .before))
+spelled-requires : tie.Need-spelled-requires Inv-loop μ-loop
+spelled-requires c κs =
+    let b = c .before .before in
+    brief b (b .loop .i + 8) (omega arith)
 
 add-i : tie.Need-add-i Inv-loop μ-loop
 add-i c = search needs
@@ -76,13 +59,27 @@ loop-less c = search needs
 
 loop-again : tie.Need-loop-again Inv-loop μ-loop
 loop-again c =
-    let l = c .before .before .before .before .before .before .loop in
-    (kept c .0, l .inv .1 ∙ remainder-go 97 (l .v) (c .if2 .v) _ (l .i) (c .before .before .before .before .before .loop-test .taken) (kept c .1 ∙ rw (next (c .before))))
+    let l = c .before .before .before .loop in
+    rw (c .spelled .ensures) (mod-lt _ (omega arith), (omega arith, l .inv .1 .1 ∙ remainder-go 97 (l .v) _ (l .i) 8))
+
+sub-spelled-2 : tie.Need-sub-spelled-2 Inv-loop μ-loop
+sub-spelled-2 c = search needs
+
+part-spelled-start-2 : tie.Need-part-spelled-start-2 Inv-loop μ-loop
+part-spelled-start-2 c = search needs
+
+part-spelled-end-2 : tie.Need-part-spelled-end-2 Inv-loop μ-loop
+part-spelled-end-2 c = search needs
+
+spelled-requires-2 : tie.Need-spelled-requires-2 Inv-loop μ-loop
+spelled-requires-2 c κs =
+    let b = c .before .before in
+    brief b (length (b .before .before .args .text .now)) (omega arith)
 
 returns : tie.Need-returns Inv-loop μ-loop
 returns c =
-    let l = c .before .loop in
-    sym (l .inv .1 ∙ rw (remainder-end (l .v) _ (l .i) (c .loop-test .left)))
+    let l = c .before .before .before .loop in
+    rw (c .spelled2 .ensures, drop-part (l .i) (c .before .before .before .before .before .args .text .now)) (sym (l .inv .1 .1))
 
 pub remainder-spec : {M : Type 1} → statement M
 remainder-spec =
@@ -91,14 +88,17 @@ remainder-spec =
     Inv-loop
     μ-loop
     loop-holds
-    shared-slice-read-c
-    letter-number-requires
-    is-digit-requires
-    mul-v
-    add-v
-    mul-v-2
-    add-v-2
+    sub-loop
+    add-spelled
+    sub-spelled
+    part-spelled-start
+    part-spelled-end
+    spelled-requires
     add-i
     loop-less
     loop-again
+    sub-spelled-2
+    part-spelled-start-2
+    part-spelled-end-2
+    spelled-requires-2
     returns)
