@@ -1,2 +1,4 @@
--- Marks   classes of bytes, patterns, and the numbers that bytes spell
+-- Marks     classes of bytes, patterns, and the numbers that bytes spell
+-- Classes   the classes by name
 pub mod Marks
+pub mod Classes

@@ -4,6 +4,7 @@ ghost use mathlib.Core.Bool.{true};
 ghost use Prim.Native.Nat.{_≤_, _<_, _%_};
 ghost use lib.ListN.{length};
 ghost use Rattle.laws.specs.Bytes.{between, all, span, same};
+ghost use Rattle.marks.specs.Classes.{of};
 ghost use Rattle.marks.specs.Marks.{digit, capital, capitalOrDigit, letterOrDigit, letter, slashed, mark, fits, value, letterValue, spelledFrom};
 
 // ─── one byte ───
@@ -52,6 +53,24 @@ pub fn is_letter_or_digit(c: u8) -> bool
     is_between(b'a', b'z', c)
 }
 
+// A class of which a run may stand in a text.
+pub enum Class {
+    Digit,
+    CapitalOrDigit,
+    LetterOrDigit,
+}
+
+// A byte of the class.
+pub fn is_of(class: Class, c: u8) -> bool
+    ensures { λ r. ⌜ r ≡ of class c ⌝ }
+{
+    match class {
+        Class::Digit => is_digit(c),
+        Class::CapitalOrDigit => is_capital_or_digit(c),
+        Class::LetterOrDigit => is_letter_or_digit(c),
+    }
+}
+
 // A byte of the letter set: a-z A-Z 0-9 / - ? : ( ) . , ' + and space.
 pub fn is_letter(c: u8) -> bool
     ensures { λ r. ⌜ r ≡ letter c ⌝ }
@@ -77,46 +96,25 @@ pub fn all_letters(text: &[u8]) -> bool
     good
 }
 
-// Every byte is a letter or digit.
-pub fn all_letters_or_digits(text: &[u8]) -> bool
-    ensures { λ r. ⌜ r ≡ all letterOrDigit (now (text .entry)) ⌝ }
+// How many bytes of a class stand at the front.
+pub fn run(class: Class, text: &[u8]) -> usize
+    ensures { λ r. ⌜ r ≡ span (of class) (now (text .entry)) ⌝ }
 {
     let mut i = 0;
     while i < text.len() {
-        if !is_letter_or_digit(text[i]) {
-            return false;
+        if !is_of(class, text[i]) {
+            return i;
         }
         i += 1;
     }
-    true
-}
-
-// Every byte is a capital or digit.
-pub fn all_capitals_or_digits(text: &[u8]) -> bool
-    ensures { λ r. ⌜ r ≡ all capitalOrDigit (now (text .entry)) ⌝ }
-{
-    let mut i = 0;
-    while i < text.len() {
-        if !is_capital_or_digit(text[i]) {
-            return false;
-        }
-        i += 1;
-    }
-    true
+    i
 }
 
 // How many digits stand at the front.
 pub fn digits(text: &[u8]) -> usize
     ensures { λ r. ⌜ r ≡ span digit (now (text .entry)) ⌝ }
 {
-    let mut i = 0;
-    while i < text.len() {
-        if !is_digit(text[i]) {
-            return i;
-        }
-        i += 1;
-    }
-    i
+    run(Class::Digit, text)
 }
 
 // A `/` at the beginning or at the end, or `//`.
