@@ -1,5 +1,6 @@
 -- WHAT A CLASS SAYS OF A BYTE, and each class by cases.
 --   class-at, class-part        where every byte is of a class, the one at i is, and so is every byte of a part
+--   class-span                  every byte is of a class where the run of the class is the whole
 --   all-and-go, all-and-end     a loop that goes through every byte: at the index i it takes one more, or is at the end
 --   between-low, between-high   a byte from a to b is at least a, at most b
 --   small-low                   a letter or digit that is neither digit nor capital is small
@@ -17,9 +18,9 @@ use mathlib.Core.Path.{_≡_, refl, sym}
 use lib.Dec.{T, eqb, leb}
 use lib.ListN.{length, take, drop, getD}
 use borrow.Author.Tests.{leb-true, ne-eqb}
-use Rattle.laws.specs.Bytes.{Bytes, between, all}
-use Rattle.laws.proofs.Tests.{and-l, and-r, and-both, T-true, true-T, bool-cases}
-use Rattle.laws.proofs.Loops.{drop-step, all-end, all-at, all-take, all-drop}
+use Rattle.laws.specs.Bytes.{Bytes, between, all, span}
+use Rattle.laws.proofs.Tests.{and-l, and-r, and-both, T-true, true-T, bool-cases, eqb-cases}
+use Rattle.laws.proofs.Loops.{drop-step, all-end, all-at, all-take, all-drop, span-whole, span-part}
 use Rattle.laws.proofs.Below.{every, below, within}
 use Rattle.marks.specs.Marks.{digit, capital, small, letterOrDigit, letter, mark, fits, letterValue}
 
@@ -30,6 +31,9 @@ class-at p s i e h = T-true (p (getD s i 0)) (all-at p s i (true-T (all p s) e) 
 
 pub class-part : (p : ℕ → Bool) (s : Bytes) (n i : ℕ) → all p s ≡ true → all p (take n (drop i s)) ≡ true
 class-part p s n i e = T-true (all p (take n (drop i s))) (all-take p n (drop i s) (all-drop p i s (true-T (all p s) e)))
+
+pub class-span : (p : ℕ → Bool) (s : Bytes) → all p s ≡ eqb (span p s) (length s)
+class-span p s = eqb-cases (λ z. all p s ≡ z) (span p s) (length s) (span-whole p s) (span-part p s)
 
 -- a loop that goes through every byte, b telling of those before i
 module _ (p : ℕ → Bool) (s : Bytes) (i : ℕ) where

@@ -1,48 +1,61 @@
 -- A TEXT OF A FRONT THAT FITS A PATTERN AND A REST OF A CLASS, as an IBAN and a creditor identifier are. The code lends the rest as a part up to the end.
---   shaped p k m q s             the first k bytes of s fit p, and behind them stand 1 to m bytes of the class q
 --   shaped-short, shaped-long    it is too short, too long
---   shaped-front, shaped-rest    the front does not fit, the rest is not of the class
---   shaped-yes                   all its tests hold
+--   shaped-front, shaped-run     the front does not fit; it does, and the run of the class behind it decides
+--   shaped-longer, shaped-fits, shaped-all   of a text that is shaped: it is longer than the front, its front fits, its rest is of the class
 --   front-letters                the front of an IBAN is of letters and digits
 --   leaves-twice                 the remainder of the rest, and then of the front behind it, is what an IBAN leaves
 --   fits-differ                  a text that fits a pattern is no word of another length
-use Prim.Native.Nat.{ℕ, _+_, _-_, _≤_, _<_, _%_}
+use Prim.Native.Nat.{ℕ, _-_, _≤_, _<_, _%_}
 use native.Mathlib.Omega.{arith}
 use mathlib.Core.Bool.{Bool, true, false, _&&_, _||_, and-false, or-true}
 use mathlib.Core.Path.{_≡_, sym, _∙_}
 use lib.Dec.{T, eqb}
 use lib.ListN.{length, take, drop, length-drop}
-use Rattle.laws.specs.Bytes.{Bytes, ascii, between, all, same}
-use Rattle.laws.proofs.Tests.{T-true, true-T}
+use Rattle.laws.specs.Bytes.{Bytes, ascii, between, all, span, same}
+use Rattle.laws.proofs.Tests.{T-true, true-T, and-l, and-r}
 use Rattle.laws.proofs.Loops.{drop-part, agree-length, agree-differ}
 use Rattle.marks.specs.Marks.{digit, capital, small, capitalOrDigit, letterOrDigit, mark, fits, spelledFrom}
-use Rattle.marks.proofs.Classes.{fits-all}
+use Rattle.marks.proofs.Classes.{between-low, class-span, fits-all}
 use Rattle.marks.proofs.Numbers.{remainder-append}
 use Rattle.text.specs.Rules.{leaves}
+use Rattle.text.specs.Shapes.{shaped}
 use Rattle.text.proofs.Musts.{between-under, between-over, between-in}
 
-abbrev pub shaped : Bytes → ℕ → ℕ → (ℕ → Bool) → Bytes → Bool
-shaped p k m q s = fits p (take k s) && (between 1 m (length (drop k s)) && all q (drop k s))
+module _ (p : Bytes) (m : ℕ) (q : ℕ → Bool) (s : Bytes) where
+  no-rest : between 1 m (length (drop (length p) s)) ≡ false → shaped p m q s ≡ false
+  no-rest e = rw (e, and-false (fits p (take (length p) s)))
 
-module _ (p : Bytes) (k m : ℕ) (q : ℕ → Bool) (s : Bytes) where
-  no-rest : (between 1 m (length (drop k s)) && all q (drop k s)) ≡ false → shaped p k m q s ≡ false
-  no-rest e = rw (e, and-false (fits p (take k s)))
+  pub shaped-short : length s ≤ length p → shaped p m q s ≡ false
+  shaped-short h = no-rest (between-under 1 m (length (drop (length p) s)) (rw (length-drop (length p) s) (omega arith)))
 
-  pub shaped-short : length s ≤ k → shaped p k m q s ≡ false
-  shaped-short h = no-rest (rw (between-under 1 m (length (drop k s)) (rw (length-drop k s) (omega arith))))
+  pub shaped-long : m < length s - length p → shaped p m q s ≡ false
+  shaped-long h = no-rest (between-over 1 m (length (drop (length p) s)) (rw (length-drop (length p) s) (omega arith)))
 
-  pub shaped-long : k + m < length s → shaped p k m q s ≡ false
-  shaped-long h = no-rest (rw (between-over 1 m (length (drop k s)) (rw (length-drop k s) (omega arith))))
-
-  pub shaped-front : fits p (take k s) ≡ false → shaped p k m q s ≡ false
+  pub shaped-front : fits p (take (length p) s) ≡ false → shaped p m q s ≡ false
   shaped-front e = rw e
 
-  pub shaped-rest : all q (take (length s - k) (drop k s)) ≡ false → shaped p k m q s ≡ false
-  shaped-rest e = no-rest (rw (rw (drop-part k s) at e, and-false (between 1 m (length (drop k s)))))
+  pub shaped-run :
+      length p < length s → length s - length p ≤ m → fits p (take (length p) s) ≡ true → (n : ℕ) → n ≡ span q (take (length s - length p) (drop (length p) s)) →
+      eqb n (length s - length p) ≡ shaped p m q s
+  shaped-run l h e n f =
+      let k = length p in
+      let d : eqb n (length s - k) ≡ all q (drop k s) = rw (f, drop-part k s, ← length-drop k s) (sym (class-span q (drop k s))) in
+      rw (e, between-in 1 m (length (drop k s)) (rw (length-drop k s) (omega arith)) (rw (length-drop k s) (omega arith))) d
 
-  pub shaped-yes : k < length s → length s ≤ k + m → fits p (take k s) ≡ true → all q (take (length s - k) (drop k s)) ≡ true → shaped p k m q s ≡ true
-  shaped-yes l h e f =
-      rw (e, between-in 1 m (length (drop k s)) (rw (length-drop k s) (omega arith)) (rw (length-drop k s) (omega arith))) (rw (drop-part k s) at f)
+  module _ (e : shaped p m q s ≡ true) where
+    rest-tests : T (between 1 m (length (drop (length p) s)) && all q (drop (length p) s))
+    rest-tests = and-r (fits p (take (length p) s)) _ (true-T (shaped p m q s) e)
+
+    pub shaped-longer : length p < length s
+    shaped-longer =
+        let n = length (drop (length p) s) in
+        omega (arith, between-low 1 m n (T-true (between 1 m n) (and-l (between 1 m n) (all q (drop (length p) s)) rest-tests)), length-drop (length p) s)
+
+    pub shaped-fits : fits p (take (length p) s) ≡ true
+    shaped-fits = T-true _ (and-l (fits p (take (length p) s)) _ (true-T (shaped p m q s) e))
+
+    pub shaped-all : all q (drop (length p) s) ≡ true
+    shaped-all = T-true _ (and-r (between 1 m (length (drop (length p) s))) _ rest-tests)
 
 -- the marks A and D: 65 and 68
 abbrev frontMark : ℕ → Bool

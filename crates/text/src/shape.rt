@@ -1,24 +1,34 @@
 // IBAN, BICFI and creditor identifier.
 ghost use mathlib.Core.Path.{_≡_};
+ghost use Rattle.marks.specs.Classes.{of};
 ghost use Rattle.text.specs.Rules.{iban, bic, creditorIdentifier};
+ghost use Rattle.text.specs.Shapes.{shaped};
 use crate::Judged;
+use marks::Class;
 use profile::Flaw;
+
+// The front has the shape of the pattern, and behind it stand 1 to `longest` bytes of the class.
+fn is_shaped(text: &[u8], pattern: &[u8], longest: usize, class: Class) -> bool
+    ensures { λ r. ⌜ r ≡ shaped (now (pattern .entry)) longest (of class) (now (text .entry)) ⌝ }
+{
+    let n = pattern.len();
+    if text.len() <= n {
+        return false;
+    }
+    if longest < text.len() - n {
+        return false;
+    }
+    if !marks::has_shape(&text[..n], pattern) {
+        return false;
+    }
+    marks::run(class, &text[n..]) == text.len() - n
+}
 
 // Two capitals, two digits, 1 to 30 letters or digits; the first four moved to the end, the number leaves 1 on division by 97.
 pub fn iban(text: &[u8]) -> Judged
     ensures { λ r. ⌜ r ≡ iban (now (text .entry)) ⌝ }
 {
-    let n = text.len();
-    if n < 5 {
-        return Judged::Bad(Flaw::Shape);
-    }
-    if 34 < n {
-        return Judged::Bad(Flaw::Shape);
-    }
-    if !marks::has_shape(&text[..4], b"AADD") {
-        return Judged::Bad(Flaw::Shape);
-    }
-    if !marks::all_letters_or_digits(&text[4..]) {
+    if !is_shaped(text, b"AADD", 30, Class::LetterOrDigit) {
         return Judged::Bad(Flaw::Shape);
     }
     let left = marks::remainder(0, &text[4..]);
@@ -48,17 +58,7 @@ pub fn bic(text: &[u8]) -> Judged
 pub fn creditor_identifier(text: &[u8]) -> Judged
     ensures { λ r. ⌜ r ≡ creditorIdentifier (now (text .entry)) ⌝ }
 {
-    let n = text.len();
-    if n < 8 {
-        return Judged::Bad(Flaw::Shape);
-    }
-    if 35 < n {
-        return Judged::Bad(Flaw::Shape);
-    }
-    if !marks::has_shape(&text[..7], b"AADDNNN") {
-        return Judged::Bad(Flaw::Shape);
-    }
-    if !marks::all_capitals_or_digits(&text[7..]) {
+    if !is_shaped(text, b"AADDNNN", 28, Class::CapitalOrDigit) {
         return Judged::Bad(Flaw::Shape);
     }
     Judged::Good(0)

@@ -1,124 +1,86 @@
--- `text::shape::iban` meets its contract. Each test of the code is one of those of the shape: of its length, its front and its rest.
--- The remainder of the rest, and then of the front behind it, is what the text leaves.
-use Prim.Native.Nat.{_-_}
+-- `text::shape::iban` meets its contract. The remainder of the rest, and then of the front behind it, is what the text leaves.
 use native.Mathlib.Nat.{mod-lt}
 use native.Mathlib.Omega.{arith}
 use mathlib.Core.Bool.{true}
 use mathlib.Core.Path.{_≡_, sym, _∙_}
-use lib.ListN.{length, take, drop}
+use lib.ListN.{take}
 use lib.Seq.{length-take-le}
 use borrow.Author.Needs.{needs}
 use borrow.Author.Tests.{not-true, not-false, eq-eqb, ne-eqb}
-use Rattle.laws.specs.Bytes.{Bytes, ascii, all}
-use Rattle.marks.specs.Marks.{letterOrDigit, fits}
+use Rattle.laws.specs.Bytes.{Bytes, ascii}
+use Rattle.laws.proofs.Loops.{drop-part}
+use Rattle.marks.specs.Marks.{letterOrDigit}
 use Rattle.text.specs.Rules.{leaves}
-use Rattle.text.proofs.Shapes.{shaped, shaped-short, shaped-long, shaped-front, shaped-rest, shaped-yes, front-letters, leaves-twice}
+use Rattle.text.specs.Shapes.{shaped}
+use Rattle.text.proofs.Shapes.{shaped-longer, shaped-fits, shaped-all, front-letters, leaves-twice}
 use Rattle.text.proofs.shape.iban.Statement.{statement}
 use Rattle.text.proofs.shape.iban.Tie as tie
 
+slice-aggregate-is-shaped : tie.Need-slice-aggregate-is-shaped
+slice-aggregate-is-shaped c = search needs
+
+is-shaped-requires : tie.Need-is-shaped-requires
+is-shaped-requires c κs = search needs
+
 returns : tie.Need-returns
-returns c = rw (shaped-short (ascii "AADD") 4 30 letterOrDigit (c .before .before .args .text .now) (omega arith))
+returns c = rw (sym (c .before .is-shaped .ensures) ∙ not-true _ (c .if1 .taken))
 
-returns-2 : tie.Need-returns-2
-returns-2 c = rw (shaped-long (ascii "AADD") 4 30 letterOrDigit (c .before .before .before .args .text .now) (omega arith))
+-- the text, once it has passed that test; and that it has its shape
+abbrev text : tie.Else1 → Bytes
+text c = c .before .before .before .before .args .text .now
 
-slice-aggregate-has-shape : tie.Need-slice-aggregate-has-shape
-slice-aggregate-has-shape c = sym (length-take-le 4 (c .before .before .before .before .args .text .now) (omega arith))
-
-slice-aggregate-has-shape-2 : tie.Need-slice-aggregate-has-shape-2
-slice-aggregate-has-shape-2 c = search needs
-
-has-shape-requires : tie.Need-has-shape-requires
-has-shape-requires c κs = search needs
-
-returns-3 : tie.Need-returns-3
-returns-3 c =
-    rw (shaped-front (ascii "AADD") 4 30 letterOrDigit (c .before .before .before .before .before .before .before .args .text .now) (sym (c .before .has-shape .ensures) ∙ not-true _ (c .if3 .taken)))
-
-sub-all-letters-or-digits : tie.Need-sub-all-letters-or-digits
-sub-all-letters-or-digits c = search needs
-
-part-all-letters-or-digits-start : tie.Need-part-all-letters-or-digits-start
-part-all-letters-or-digits-start c = search needs
-
-part-all-letters-or-digits-end : tie.Need-part-all-letters-or-digits-end
-part-all-letters-or-digits-end c = search needs
-
-all-letters-or-digits-requires : tie.Need-all-letters-or-digits-requires
-all-letters-or-digits-requires c κs = search needs
-
-returns-4 : tie.Need-returns-4
-returns-4 c =
-    rw (shaped-rest (ascii "AADD") 4 30 letterOrDigit (c .before .before .before .before .before .before .before .before .before .before .args .text .now) (sym (c .before .all-letters-or-digits .ensures) ∙ not-true _ (c .if4 .taken)))
-
--- the text, once its length, its front and its rest have passed their tests; and that it has its shape
-abbrev text : tie.Else4 → Bytes
-text c = c .before .before .before .before .before .before .before .before .before .before .args .text .now
-
-front-fits : (c : tie.Else4) → fits (ascii "AADD") (take 4 (text c)) ≡ true
-front-fits c = sym (c .before .before .before .before .has-shape .ensures) ∙ not-false _ (c .before .before .before .if3 .left)
-
-rest-all : (c : tie.Else4) → all letterOrDigit (take (length (text c) - 4) (drop 4 (text c))) ≡ true
-rest-all c = sym (c .before .all-letters-or-digits .ensures) ∙ not-false _ (c .if4 .left)
-
-is-shaped : (c : tie.Else4) → shaped (ascii "AADD") 4 30 letterOrDigit (text c) ≡ true
-is-shaped c = shaped-yes (ascii "AADD") 4 30 letterOrDigit (text c) (omega arith) (omega arith) (front-fits c) (rest-all c)
+is-shaped : (c : tie.Else1) → shaped (ascii "AADD") 30 letterOrDigit (text c) ≡ true
+is-shaped c = sym (c .before .is-shaped .ensures) ∙ not-false _ (c .if1 .left)
 
 sub-remainder : tie.Need-sub-remainder
-sub-remainder c = search needs
+sub-remainder c = omega (arith, shaped-longer (ascii "AADD") 30 letterOrDigit (text c) (is-shaped c))
 
 part-remainder-start : tie.Need-part-remainder-start
-part-remainder-start c = search needs
+part-remainder-start c = omega (arith, shaped-longer (ascii "AADD") 30 letterOrDigit (text c) (is-shaped c))
 
 part-remainder-end : tie.Need-part-remainder-end
 part-remainder-end c = search needs
 
 remainder-requires : tie.Need-remainder-requires
-remainder-requires c κs = (omega arith, rest-all (c .before))
+remainder-requires c κs = (omega arith, rw (drop-part 4 (text (c .before))) (shaped-all (ascii "AADD") 30 letterOrDigit (text (c .before)) (is-shaped (c .before))))
 
 slice-aggregate-remainder : tie.Need-slice-aggregate-remainder
-slice-aggregate-remainder c = sym (length-take-le 4 (text (c .before .before .before)) (omega arith))
+slice-aggregate-remainder c =
+    let b = c .before .before .before in
+    sym (length-take-le 4 (text b) (omega (arith, shaped-longer (ascii "AADD") 30 letterOrDigit (text b) (is-shaped b))))
 
 remainder-requires-2 : tie.Need-remainder-requires-2
 remainder-requires-2 c κs =
     let b = c .before .before .before in
-    (rw (c .before .remainder .ensures) (mod-lt _ (omega arith)), front-letters (take 4 (text b)) (front-fits b))
+    (rw (c .before .remainder .ensures) (mod-lt _ (omega arith)), front-letters (take 4 (text b)) (shaped-fits (ascii "AADD") 30 letterOrDigit (text b) (is-shaped b)))
 
 -- the second remainder is what the text leaves
 is-left : (c : tie.After-remainder2) → c .remainder2 .result ≡ leaves (text (c .before .before .before .before))
 is-left c =
     leaves-twice (text (c .before .before .before .before)) (c .before .before .remainder .result) (c .remainder2 .result) (c .before .before .remainder .ensures) (c .remainder2 .ensures)
 
-returns-5 : tie.Need-returns-5
-returns-5 c =
+returns-2 : tie.Need-returns-2
+returns-2 c =
     let b = c .before .before .before .before .before in
-    rw (is-shaped b, ne-eqb (leaves (text b)) 1 (λ e. c .if5 .taken (is-left (c .before) ∙ e)))
+    rw (is-shaped b, ne-eqb (leaves (text b)) 1 (λ e. c .if2 .taken (is-left (c .before) ∙ e)))
 
-returns-6 : tie.Need-returns-6
-returns-6 c =
+returns-3 : tie.Need-returns-3
+returns-3 c =
     let b = c .before .before .before .before .before in
-    rw (is-shaped b, eq-eqb (leaves (text b)) 1 (sym (is-left (c .before)) ∙ c .if5 .left))
+    rw (is-shaped b, eq-eqb (leaves (text b)) 1 (sym (is-left (c .before)) ∙ c .if2 .left))
 
 pub iban-spec : {M : Type 1} → statement M
 iban-spec =
     tie.close
     (tie.spec
+    slice-aggregate-is-shaped
+    is-shaped-requires
     returns
-    returns-2
-    slice-aggregate-has-shape
-    slice-aggregate-has-shape-2
-    has-shape-requires
-    returns-3
-    sub-all-letters-or-digits
-    part-all-letters-or-digits-start
-    part-all-letters-or-digits-end
-    all-letters-or-digits-requires
-    returns-4
     sub-remainder
     part-remainder-start
     part-remainder-end
     remainder-requires
     slice-aggregate-remainder
     remainder-requires-2
-    returns-5
-    returns-6)
+    returns-2
+    returns-3)
