@@ -1,14 +1,13 @@
 -- HEXADECIMAL DIGITS: what a loop over them keeps, and where the bytes stand.
 --   hex-odd, hex-all             an odd number of bytes is not hexadecimal; an even number is where each byte is a digit
---   value-digit, value-capital, value-none   what a byte is worth, by its class; value-zero: nothing, where it is 0 or no digit
+--   value-digit, value-capital, value-none   what a byte is worth, by its class
 --   value-under                  a digit is worth less than 16
---   down                         a number below a bound that is not the last below it
 --   unhex-length, unhex-at       two digits are a byte: how many there are, and the one at a place
 use Prim.Native.Nat.{ℕ, zero, suc, _+_, _-_, _*_, _/_, _%_, _<_}
 use native.Mathlib.Omega.{arith}
 use mathlib.Core.Bool.{Bool, true, false, and-false}
 use mathlib.Core.List.{[], _∷_}
-use mathlib.Core.Path.{_≡_, refl, _∙_}
+use mathlib.Core.Path.{_≡_, refl}
 use lib.ListN.{length, getD}
 use Rattle.laws.specs.Bytes.{Bytes, between, all}
 use Rattle.marks.specs.Marks.{digit}
@@ -35,14 +34,6 @@ module _ (c : ℕ) where
   pub value-none : digit c ≡ false → between 65 70 c ≡ false → hexValue c ≡ 0
   value-none d k = rw (d, k, hexValue)
 
-  pub value-zero : (digit c ≡ true → c ≡ 48) → (between 65 70 c ≡ true → ⊥) → hexValue c ≡ 0
-  value-zero f g = go (digit c) refl (between 65 70 c) refl
-    where
-      go : (y : Bool) → digit c ≡ y → (z : Bool) → between 65 70 c ≡ z → hexValue c ≡ 0
-      go true d z k = value-digit d ∙ omega (arith, f d)
-      go false d true k = absurd (g k)
-      go false d false k = value-none d k
-
   pub value-under : hexValue c < 16
   value-under = go (digit c) refl (between 65 70 c) refl
     where
@@ -50,10 +41,6 @@ module _ (c : ℕ) where
       go true d z k = rw (value-digit d) (omega (arith, between-high 48 57 c d))
       go false d true k = rw (value-capital d k) (omega (arith, between-high 65 70 c k))
       go false d false k = rw (value-none d k) (omega arith)
-
--- one number less
-pub down : (b x : ℕ) → x < b + 1 → (x ≡ b → ⊥) → x < b
-down b x h n = omega arith
 
 pub unhex-length : (s : Bytes) → length (unhex s) ≡ length s / 2
 unhex-length [] = refl

@@ -73,30 +73,6 @@ pub fn is_hex(line: &[u8]) -> bool
     all_digits(line)
 }
 
-// What a digit is worth, and 0 where it is none, from a table: for a digit by itself.
-fn worth(c: u8) -> u8
-    ensures { λ r. ⌜ r ≡ hexValue c ⌝ }
-{
-    match c {
-        b'1' => 1,
-        b'2' => 2,
-        b'3' => 3,
-        b'4' => 4,
-        b'5' => 5,
-        b'6' => 6,
-        b'7' => 7,
-        b'8' => 8,
-        b'9' => 9,
-        b'A' => 10,
-        b'B' => 11,
-        b'C' => 12,
-        b'D' => 13,
-        b'E' => 14,
-        b'F' => 15,
-        _ => 0,
-    }
-}
-
 // The byte at a place of those that the line stands for, counted from 0, and 0 behind their end.
 pub fn byte_at(line: &[u8], place: usize) -> u8
     ensures { λ r. ⌜ r ≡ getD (unhex (now (line .entry))) place 0 ⌝ }
@@ -104,8 +80,8 @@ pub fn byte_at(line: &[u8], place: usize) -> u8
     if line.len() / 2 <= place {
         return 0;
     }
-    let high = worth(line[place * 2]);
-    let low = worth(line[place * 2 + 1]);
+    let high = hex_value(line[place * 2]);
+    let low = hex_value(line[place * 2 + 1]);
     high * 16 + low
 }
 
