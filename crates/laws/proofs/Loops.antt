@@ -1,6 +1,6 @@
 -- WHAT A LOOP OVER BYTES KEEPS, for each definition of Bytes: at the index i it stops, goes on, or is at the end. Then what the whole says of a part.
 --   drop-step, drop-part                what is left at the index i: as its head and its rest, and as a part that is lent up to the end
---   all-stop, all-go, all-end           a loop that looks for a byte outside a class
+--   all-end                             a loop that looks at every byte of a class
 --   span-stop, span-go, span-end        a loop that counts the bytes of a class at the front
 --   agree-stop, agree-go, agree-end     a loop that holds two byte strings against each other; agree-length, agree-differ: their lengths
 --   all-at, all-take, all-drop          every byte of a class: at an index, of a part
@@ -30,15 +30,8 @@ drop-part i s = take-all (length s - i) (drop i s) (omega (arith, length-drop i 
 
 -- ─── all ───
 
-module _ (p : ℕ → Bool) (s : Bytes) (i : ℕ) where
-  pub all-stop : i < length s → p (getD s i 0) ≡ false → all p (drop i s) ≡ false
-  all-stop h e = rw (drop-step s i h, e)
-
-  pub all-go : i < length s → p (getD s i 0) ≡ true → all p (drop i s) ≡ all p (drop (i + 1) s)
-  all-go h e = rw (drop-step s i h, e)
-
-  pub all-end : length s ≤ i → all p (drop i s) ≡ true
-  all-end h = rw (drop-of-length-le s h)
+pub all-end : (p : ℕ → Bool) (s : Bytes) (i : ℕ) → length s ≤ i → all p (drop i s) ≡ true
+all-end p s i h = rw (drop-of-length-le s h)
 
 -- ─── span ───
 
