@@ -1,27 +1,22 @@
 -- FINDING ELEMENTS AMONG CONTENTS that are put together from pieces.
---   every p cs, without n, above k     each content passes a test; it is not of the part n; it is of no part, or of a part from k on
---   every-append, every-gather         what is put together
+--   without n, above k                 tests of a content: it is not of the part n; it is of no part, or of a part from k on
+--   each-append, each-gather           each of what is put together passes a test
 --   above-without                      no element below k is among those above k
 --   all-append, all-without            the elements of a part
 --   before-without, parts-without      pieces without the part
 --   Piece n cs, parts-gather           a first element of the part n and no other; such pieces, one behind the other
---   length-all                         there are as many elements of a part as its parts
-use Prim.Native.Nat.{ℕ, suc, _≤_, _<_}
+use Prim.Native.Nat.{ℕ, _≤_, _<_}
 use native.Mathlib.Omega.{arith}
 use mathlib.Core.Bool.{Bool, true, false, not, _&&_, _||_}
 use mathlib.Core.List.{List, [], _∷_, _++_, map, append-nil}
 use mathlib.Core.Path.{_≡_, refl, ap, ap₂, sym, _∙_}
 use lib.Dec.{T, eqb, leb, eqb→eq, leb→le}
-use lib.ListN.{length}
 use Rattle.laws.specs.Lists.{gather}
+use Rattle.laws.proofs.Below.{each}
 use Rattle.laws.proofs.Tests.{eqb-cases, and-l, and-r, and-both, T-true, T-false}
 use Rattle.carries.specs.Contents.{Content, is, before, parts, all}
 
 -- ─── tests of each ───
-
-abbrev pub every : (Content → Bool) → List Content → Bool
-every p [] = true
-every p (c ∷ cs) = p c && every p cs
 
 abbrev pub without : ℕ → Content → Bool
 without n c = not (is n c)
@@ -30,25 +25,25 @@ abbrev pub above : ℕ → Content → Bool
 above k c = eqb (c .part) 0 || leb k (c .part)
 
 module _ (p : Content → Bool) where
-  pub every-append : (a b : List Content) → T (every p a) → T (every p b) → T (every p (a ++ b))
-  every-append [] b s t = t
-  every-append (c ∷ a) b s t = and-both (p c) (every p (a ++ b)) (and-l (p c) (every p a) s) (every-append a b (and-r (p c) (every p a) s) t)
+  pub each-append : (a b : List Content) → T (each p a) → T (each p b) → T (each p (a ++ b))
+  each-append [] b s t = t
+  each-append (c ∷ a) b s t = and-both (p c) (each p (a ++ b)) (and-l (p c) (each p a) s) (each-append a b (and-r (p c) (each p a) s) t)
 
-  pub every-gather : {A : Type 0} (f : A → List Content) (xs : List A) → ((x : A) → T (every p (f x))) → T (every p (gather f xs))
-  every-gather f [] h = tt
-  every-gather f (x ∷ xs) h = every-append (f x) (gather f xs) (h x) (every-gather f xs h)
+  pub each-gather : {A : Type 0} (f : A → List Content) (xs : List A) → ((x : A) → T (each p (f x))) → T (each p (gather f xs))
+  each-gather f [] h = tt
+  each-gather f (x ∷ xs) h = each-append (f x) (gather f xs) (h x) (each-gather f xs h)
 
-  pub every-imp : (q : Content → Bool) (cs : List Content) → ((c : Content) → T (p c) → T (q c)) → T (every p cs) → T (every q cs)
-  every-imp q [] h t = tt
-  every-imp q (c ∷ cs) h t = and-both (q c) (every q cs) (h c (and-l (p c) (every p cs) t)) (every-imp q cs h (and-r (p c) (every p cs) t))
+  pub each-imp : (q : Content → Bool) (cs : List Content) → ((c : Content) → T (p c) → T (q c)) → T (each p cs) → T (each q cs)
+  each-imp q [] h t = tt
+  each-imp q (c ∷ cs) h t = and-both (q c) (each q cs) (h c (and-l (p c) (each p cs) t)) (each-imp q cs h (and-r (p c) (each p cs) t))
 
 not-above : (k n : ℕ) → 1 ≤ n → n < k → (a b : Bool) → (T a → n ≡ 0) → (T b → k ≤ n) → T (a || b) → ⊥
 not-above k n h l true b f g t = omega (arith, f tt)
 not-above k n h l false true f g t = omega (arith, g tt)
 not-above k n h l false false f g t = t
 
-pub above-without : (k n : ℕ) → 1 ≤ n → n < k → (cs : List Content) → T (every (above k) cs) → T (every (without n) cs)
-above-without k n h l cs = every-imp (above k) (without n) cs one
+pub above-without : (k n : ℕ) → 1 ≤ n → n < k → (cs : List Content) → T (each (above k) cs) → T (each (without n) cs)
+above-without k n h l cs = each-imp (above k) (without n) cs one
   where
     one : (c : Content) → T (above k c) → T (without n c)
     one c t = eqb-cases (λ z. T (not z)) (c .part) n
@@ -66,11 +61,11 @@ module _ (n : ℕ) where
       go false e = e
 
   -- an element of another part, and one of this part
-  not-it : (c : Content) (cs : List Content) → T (every (without n) (c ∷ cs)) → is n c ≡ false
-  not-it c cs t = T-false (is n c) (and-l (without n c) (every (without n) cs) t)
+  not-it : (c : Content) (cs : List Content) → T (each (without n) (c ∷ cs)) → is n c ≡ false
+  not-it c cs t = T-false (is n c) (and-l (without n c) (each (without n) cs) t)
 
-  nor-behind : (c : Content) (cs : List Content) → T (every (without n) (c ∷ cs)) → T (every (without n) cs)
-  nor-behind c cs t = and-r (without n c) (every (without n) cs) t
+  nor-behind : (c : Content) (cs : List Content) → T (each (without n) (c ∷ cs)) → T (each (without n) cs)
+  nor-behind c cs t = and-r (without n c) (each (without n) cs) t
 
   all-no : (c : Content) (cs : List Content) → is n c ≡ false → all n (c ∷ cs) ≡ all n cs
   all-no c cs e = ap {B = List Content} (λ (z : Bool). elim z [ true ↦ c ∷ all n cs | false ↦ all n cs ]) e
@@ -81,27 +76,18 @@ module _ (n : ℕ) where
   parts-is : (c : Content) (cs : List Content) (z : Bool) → is n c ≡ z → parts n (c ∷ cs) ≡ elim z [ true ↦ (c ∷ before n cs) ∷ parts n cs | false ↦ parts n cs ]
   parts-is c cs z e = ap {B = List (List Content)} (λ (z : Bool). elim z [ true ↦ (c ∷ before n cs) ∷ parts n cs | false ↦ parts n cs ]) e
 
-  pub all-without : (cs : List Content) → T (every (without n) cs) → all n cs ≡ []
+  pub all-without : (cs : List Content) → T (each (without n) cs) → all n cs ≡ []
   all-without [] t = refl
   all-without (c ∷ cs) t = all-no c cs (not-it c cs t) ∙ all-without cs (nor-behind c cs t)
 
-  pub before-without : (cs r : List Content) → T (every (without n) cs) → before n (cs ++ r) ≡ cs ++ before n r
+  pub before-without : (cs r : List Content) → T (each (without n) cs) → before n (cs ++ r) ≡ cs ++ before n r
   before-without [] r t = refl
   before-without (c ∷ cs) r t =
       before-is c (cs ++ r) false (not-it c cs t) ∙ ap {B = List Content} (λ (l : List Content). c ∷ l) (before-without cs r (nor-behind c cs t))
 
-  pub parts-without : (cs r : List Content) → T (every (without n) cs) → parts n (cs ++ r) ≡ parts n r
+  pub parts-without : (cs r : List Content) → T (each (without n) cs) → parts n (cs ++ r) ≡ parts n r
   parts-without [] r t = refl
   parts-without (c ∷ cs) r t = parts-is c (cs ++ r) false (not-it c cs t) ∙ parts-without cs r (nor-behind c cs t)
-
-  pub length-all : (cs : List Content) → length (all n cs) ≡ length (parts n cs)
-  length-all [] = refl
-  length-all (c ∷ cs) = go (is n c) (length-all cs)
-    where
-      go : (z : Bool) → length (all n cs) ≡ length (parts n cs)
-          → length {A = Content} (elim z [ true ↦ c ∷ all n cs | false ↦ all n cs ]) ≡ length {A = List Content} (elim z [ true ↦ (c ∷ before n cs) ∷ parts n cs | false ↦ parts n cs ])
-      go true e = ap suc e
-      go false e = e
 
   -- ─── pieces ───
 
@@ -110,7 +96,7 @@ module _ (n : ℕ) where
     pub rest : List Content
     pub whole : cs ≡ first ∷ rest
     pub plays : T (is n first)
-    pub no-other : T (every (without n) rest)
+    pub no-other : T (each (without n) rest)
 
   module _ {A : Type 0} (f : A → List Content) (h : (x : A) → Piece (f x)) where
     before-gather : (xs : List A) → before n (gather f xs) ≡ []

@@ -15,6 +15,8 @@ use lib.Dec.{T}
 use lib.ListN.{length, drop}
 use Rattle.laws.specs.Bytes.{Bytes}
 use Rattle.laws.specs.Lists.{All, gather}
+use Rattle.laws.specs.Sections.{lastOr}
+use Rattle.laws.proofs.Below.{each}
 use Rattle.put.specs.Numerals.{decimal, euros}
 use Rattle.text.specs.declared.Rule.the-variants.{Amount, Count, Sum, Date, Scheme, Sequence}
 use Rattle.text.specs.Rules.{told, judged}
@@ -24,18 +26,18 @@ use Rattle.listed.specs.Listed.{Terms, Collection, Creditor}
 use Rattle.listed.specs.Good.{GoodTerms, GoodCollection}
 use Rattle.written.specs.Written.{schemeWord, sequenceWord, termsOf}
 use Rattle.written.proofs.Numerals.{amount-good, scheme-good, sequence-good}
-use Rattle.carries.specs.Contents.{Content, parts, all, lastOr, the, worth, textOf, termsIn, collectionIn, collectionsIn, cents}
+use Rattle.carries.specs.Contents.{Content, parts, all, the, worth, textOf, termsIn, collectionIn, collectionsIn, cents}
 use Rattle.carries.specs.Held.{box, txt, bankHeld, remittanceHeld, debtor, transactionHeld, scheme, headHeld, batchHeld, messageHeld}
-use Rattle.carries.proofs.Among.{every, without, above, every-append, every-gather, above-without, all-without, parts-without, Piece, parts-gather}
+use Rattle.carries.proofs.Among.{without, above, each-append, each-gather, above-without, all-without, parts-without, Piece, parts-gather}
 
 -- ─── a transaction ───
 
 module _ (x : Collection) where
   -- behind its opening, of no part up to that of a transaction
-  transaction-rest : T (every (above 10) (drop 1 (transactionHeld x)))
+  transaction-rest : T (each (above 10) (drop 1 (transactionHeld x)))
   transaction-rest = go (x .bank) (x .remittance)
     where
-      go : (b r : Bytes) → T (every (above 10) (bankHeld part.debtorBank b ++ (debtor (x .debtorName) (x .debtorAccount) ++ remittanceHeld r)))
+      go : (b r : Bytes) → T (each (above 10) (bankHeld part.debtorBank b ++ (debtor (x .debtorName) (x .debtorAccount) ++ remittanceHeld r)))
       go [] [] = tt
       go [] (d ∷ r) = tt
       go (c ∷ b) [] = tt
@@ -50,9 +52,9 @@ module _ (x : Collection) where
     no-other = above-without 10 9 (omega arith) (omega arith) (drop 1 (transactionHeld x)) transaction-rest;
   }
 
-  transaction-without : (n : ℕ) → 1 ≤ n → n < 9 → T (every (without n) (transactionHeld x))
+  transaction-without : (n : ℕ) → 1 ≤ n → n < 9 → T (each (without n) (transactionHeld x))
   transaction-without n h l =
-      every-append (without n) (box part.transaction ∷ []) (drop 1 (transactionHeld x)) (above-without 9 n h l (box part.transaction ∷ []) tt)
+      each-append (without n) (box part.transaction ∷ []) (drop 1 (transactionHeld x)) (above-without 9 n h l (box part.transaction ∷ []) tt)
       (above-without 10 n h (omega arith) (drop 1 (transactionHeld x)) transaction-rest)
 
   -- x with these cents, bank and remittance
@@ -90,7 +92,7 @@ collections-held k (x ∷ xs) a g =
 -- ─── a batch ───
 
 -- the creditor's bank and what follows it play no part
-quiet : (k : ℕ) (b i : Bytes) → T (every (above k) (bankHeld 0 b ++ scheme i))
+quiet : (k : ℕ) (b i : Bytes) → T (each (above k) (bankHeld 0 b ++ scheme i))
 quiet k [] i = tt
 quiet k (c ∷ b) i = tt
 
@@ -98,11 +100,11 @@ module _ (cr : Creditor) (n : ℕ) (xs : List Collection) where
   abbrev behind : List Content
   behind = (bankHeld 0 (cr .bank) ++ scheme (cr .identifier)) ++ gather transactionHeld xs
 
-  pub behind-without : (p : ℕ) → 1 ≤ p → p < 9 → T (every (without p) behind)
+  pub behind-without : (p : ℕ) → 1 ≤ p → p < 9 → T (each (without p) behind)
   behind-without p h l =
-      every-append (without p) (bankHeld 0 (cr .bank) ++ scheme (cr .identifier)) (gather transactionHeld xs)
+      each-append (without p) (bankHeld 0 (cr .bank) ++ scheme (cr .identifier)) (gather transactionHeld xs)
       (above-without 9 p h l (bankHeld 0 (cr .bank) ++ scheme (cr .identifier)) (quiet 9 (cr .bank) (cr .identifier)))
-      (every-gather (without p) transactionHeld xs (λ x. transaction-without x p h l))
+      (each-gather (without p) transactionHeld xs (λ x. transaction-without x p h l))
 
   -- where the head has one element of a part below that of a transaction, that is the one of the batch
   one-found : (p : ℕ) → 1 ≤ p → p < 9 → (c : Content) → lastOr none (c ∷ all p behind) ≡ some c

@@ -3,20 +3,20 @@
 --   batches-within     an accepted message has at most the profile's batches
 --   fewest-batches     a message that carries a list within the ceiling has no fewer batches than are needed
 --   none-exists        where more are needed than the profile has, no message carries the list
-use Prim.Native.Nat.{ℕ, suc, _≤_, _<_}
+use Prim.Native.Nat.{ℕ, _≤_, _<_}
 use native.Mathlib.Omega.{arith}
-use mathlib.Core.Bool.{Bool, true, false}
 use mathlib.Core.List.{List, [], _∷_, map}
-use mathlib.Core.Path.{_≡_, refl, ap, sym, _∙_}
+use mathlib.Core.Path.{_≡_, refl, sym, _∙_}
 use lib.ListN.{length, length-map}
 use Rattle.laws.specs.Bytes.{Bytes}
 use Rattle.laws.specs.Lists.{All}
+use Rattle.laws.proofs.Sections.{length-all}
 use Rattle.profile.specs.Limits.{mostBatches}
 use Rattle.tree.specs.Form.{Message, message}
 use Rattle.tree.specs.Pain008.{Document, declaration}
 use Rattle.tree.specs.Parts as part
 use Rattle.message.specs.declared.Told.{Told}
-use Rattle.message.specs.Message.{is, all, parts, before, batchOf, batchesOf}
+use Rattle.message.specs.Message.{parts, batchOf, batchesOf}
 use Rattle.checked.specs.Check.{saidBy}
 use Rattle.bundle.specs.Bundle.{Fits, need}
 use Rattle.bundle.proofs.Fewest.{fewest}
@@ -26,21 +26,12 @@ use Rattle.carries.specs.Carried.{termsFrom, collectionFrom, carriedIn, 
 
 -- ─── batches ───
 
-length-parts : (n : ℕ) (ts : List Told) → length (parts n ts) ≡ length (all n ts)
-length-parts n [] = refl
-length-parts n (t ∷ ts) = go (is n t) (length-parts n ts)
-  where
-    go : (z : Bool) → length (parts n ts) ≡ length (all n ts)
-        → length {A = List Told} (elim z [ true ↦ (t ∷ before n ts) ∷ parts n ts | false ↦ parts n ts ]) ≡ length {A = Told} (elim z [ true ↦ t ∷ all n ts | false ↦ all n ts ])
-    go true e = ap suc e
-    go false e = e
-
 pub carried-batches : (m : Message Document) → length (carriedBy m) ≡ length (batchesOf (saidBy m))
 unfolding carriedBy
 carried-batches m = length-map (parts part.batch (saidBy m)) (carriedIn (message declaration m)) ∙ sym (length-map (parts part.batch (saidBy m)) batchOf)
 
 pub batches-within : (m : Message Document) → Accepted m → length (carriedBy m) ≤ mostBatches
-batches-within m a = omega (arith, carried-batches m, length-map (parts part.batch (saidBy m)) batchOf, length-parts part.batch (saidBy m), a .belongs .profile .batches)
+batches-within m a = omega (arith, carried-batches m, length-map (parts part.batch (saidBy m)) batchOf, length-all (λ t. t .part) part.batch (saidBy m), a .belongs .profile .batches)
 
 of-own : (s : Bytes) (k : Terms) (ps : List (List Told)) → All (λ x. x .terms ≡ k) (map (collectionFrom s k) ps)
 of-own s k [] = tt

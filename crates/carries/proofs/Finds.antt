@@ -3,11 +3,11 @@
 --   worth-seen, text-seen              the number that the one element of a part tells, and its text
 --   carried-contents                   the collections of a message are those of its contents
 use Prim.Native.Nat.{ℕ}
-use mathlib.Core.Bool.{Bool, true, false}
 use mathlib.Core.List.{List, [], _∷_, map}
 use mathlib.Core.Option.{Option, none, some}
 use mathlib.Core.Path.{_≡_, refl, ap, ap₂, fun-ext, _∙_}
 use Rattle.laws.specs.Bytes.{Bytes}
+use Rattle.laws.proofs.Sections.{mapIf, map-parts, map-all, map-the}
 use Rattle.tree.specs.Form.{Message, message}
 use Rattle.tree.specs.Pain008.{Document, declaration}
 use Rattle.tree.specs.Parts as part
@@ -16,7 +16,7 @@ use Rattle.message.specs.Message as said
 use Rattle.checked.specs.Check.{saidBy}
 use Rattle.listed.specs.Listed.{Terms, Collection}
 use Rattle.carries.specs.Carried.{textAt, termsBy, collectionBy, termsFrom, collectionFrom, carriedIn, carriedBy}
-use Rattle.carries.specs.Contents.{Content, contents, contentOf, is, before, parts, all, lastOr, the, worth, textOf, termsIn, collectionIn, collectionsIn, carriedOf}
+use Rattle.carries.specs.Contents.{Content, contents, contentOf, parts, all, the, worth, textOf, termsIn, collectionIn, collectionsIn, carriedOf}
 use Rattle.carries.proofs.Said.{said-contents}
 
 module _ (s : Bytes) where
@@ -24,45 +24,18 @@ module _ (s : Bytes) where
   seen ts = map (contentOf s) ts
 
   abbrev pub seenIf : Option Told → Option Content
-  seenIf none = none
-  seenIf (some t) = some (contentOf s t)
+  seenIf o = mapIf (contentOf s) o
 
   -- ─── elements of a part ───
 
-  pub before-seen : (n : ℕ) (ts : List Told) → seen (said.before n ts) ≡ before n (seen ts)
-  before-seen n [] = refl
-  before-seen n (t ∷ ts) = go (said.is n t) (before-seen n ts)
-    where
-      go : (z : Bool) → seen (said.before n ts) ≡ before n (seen ts)
-          → seen (elim z [ true ↦ [] | false ↦ t ∷ said.before n ts ]) ≡ elim z [ true ↦ [] | false ↦ contentOf s t ∷ before n (seen ts) ]
-      go true e = refl
-      go false e = ap {B = List Content} (λ (l : List Content). contentOf s t ∷ l) e
-
   pub parts-seen : (n : ℕ) (ts : List Told) → map seen (said.parts n ts) ≡ parts n (seen ts)
-  parts-seen n [] = refl
-  parts-seen n (t ∷ ts) = go (said.is n t) (before-seen n ts) (parts-seen n ts)
-    where
-      go : (z : Bool) → seen (said.before n ts) ≡ before n (seen ts) → map seen (said.parts n ts) ≡ parts n (seen ts)
-          → map seen (elim z [ true ↦ (t ∷ said.before n ts) ∷ said.parts n ts | false ↦ said.parts n ts ])
-          ≡ elim z [ true ↦ (contentOf s t ∷ before n (seen ts)) ∷ parts n (seen ts) | false ↦ parts n (seen ts) ]
-      go true b e = ap₂ {C = List (List Content)} (λ (l : List Content) (r : List (List Content)). (contentOf s t ∷ l) ∷ r) b e
-      go false b e = e
+  parts-seen n ts = map-parts (contentOf s) (λ c. c .part) n ts
 
   pub all-seen : (n : ℕ) (ts : List Told) → seen (said.all n ts) ≡ all n (seen ts)
-  all-seen n [] = refl
-  all-seen n (t ∷ ts) = go (said.is n t) (all-seen n ts)
-    where
-      go : (z : Bool) → seen (said.all n ts) ≡ all n (seen ts)
-          → seen (elim z [ true ↦ t ∷ said.all n ts | false ↦ said.all n ts ]) ≡ elim z [ true ↦ contentOf s t ∷ all n (seen ts) | false ↦ all n (seen ts) ]
-      go true e = ap {B = List Content} (λ (l : List Content). contentOf s t ∷ l) e
-      go false e = e
-
-  last-seen : (o : Option Told) (ts : List Told) → seenIf (said.lastOr o ts) ≡ lastOr (seenIf o) (seen ts)
-  last-seen o [] = refl
-  last-seen o (t ∷ ts) = last-seen (some t) ts
+  all-seen n ts = map-all (contentOf s) (λ c. c .part) n ts
 
   pub the-seen : (n : ℕ) (ts : List Told) → seenIf (said.the n ts) ≡ the n (seen ts)
-  the-seen n ts = last-seen none (said.all n ts) ∙ ap (lastOr none) (all-seen n ts)
+  the-seen n ts = map-the (contentOf s) (λ c. c .part) n ts
 
   worth-if : (o : Option Told) → said.worthOf o ≡ worth (seenIf o)
   worth-if none = refl

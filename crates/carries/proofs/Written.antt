@@ -14,6 +14,9 @@ use lib.Dec.{T}
 use lib.ListN.{length, length-map, length-append}
 use Rattle.laws.specs.Bytes.{Bytes}
 use Rattle.laws.specs.Lists.{All, concat, gather}
+use Rattle.laws.specs.Sections.{lastOr}
+use Rattle.laws.proofs.Below.{each}
+use Rattle.laws.proofs.Sections.{length-all}
 use Rattle.laws.proofs.Counts.{All-append, All-map}
 use Rattle.profile.specs.Limits.{mostBytes, mostBatches, mostCollections}
 use Rattle.put.specs.Numerals.{decimal, euros, batchId}
@@ -36,12 +39,12 @@ use Rattle.written.proofs.Numerals.{count-good, sum-good, amount-good, batch-id
 use Rattle.written.proofs.Printed.{pieces-written}
 use Rattle.written.proofs.Lengths.{all-concat, cents-most, message-length}
 use Rattle.carries.specs.Carried.{carriedBy, Accepted}
-use Rattle.carries.specs.Contents.{Content, contents, all, lastOr, the, collectionsIn, carriedOf, ProfileIn, Agreed, cents, BatchAgreed, AgreedIn}
+use Rattle.carries.specs.Contents.{Content, contents, all, the, collectionsIn, carriedOf, ProfileIn, Agreed, cents, BatchAgreed, AgreedIn}
 use Rattle.carries.specs.Held.{txt, bankHeld, remittanceHeld, debtor, transactionHeld, scheme as schemeHeld, batchHeld, messageHeld}
 use Rattle.carries.proofs.Finds.{carried-contents}
 use Rattle.carries.proofs.Exact.{profile-contents, agree-contents}
 use Rattle.carries.proofs.Held.{length-number, message-held}
-use Rattle.carries.proofs.Among.{every, every-gather, without, all-append, all-without, length-all}
+use Rattle.carries.proofs.Among.{each-gather, without, all-append, all-without}
 use Rattle.carries.proofs.Collected.{behind-without, count-found, sum-found, transactions-held, batch-collections, message-batches}
 
 pub record GoodBatch (b : List Collection) : Type 0 where
@@ -96,10 +99,10 @@ module _ (cr : Creditor) where
       (batch-agreed n b (g .0) (omega (arith, length-append b (concat bs))), batches-agreed (suc n) bs (g .1) (omega (arith, length-append b (concat bs))))
 
   -- where no batch has an element of a part, the header's is the one of the message
-  header-found : (p : ℕ) → ((q : ℕ × List Collection) → T (every (without p) (batchHeld cr q))) → (bs : List (List Collection)) (c : Content)
+  header-found : (p : ℕ) → ((q : ℕ × List Collection) → T (each (without p) (batchHeld cr q))) → (bs : List (List Collection)) (c : Content)
       → lastOr none (c ∷ all p (gather (batchHeld cr) (number 1 bs))) ≡ some c
   header-found p w bs c =
-      ap (λ (cs : List Content). lastOr none (c ∷ cs)) (all-without p (gather (batchHeld cr) (number 1 bs)) (every-gather (without p) (batchHeld cr) (number 1 bs) w))
+      ap (λ (cs : List Content). lastOr none (c ∷ cs)) (all-without p (gather (batchHeld cr) (number 1 bs)) (each-gather (without p) (batchHeld cr) (number 1 bs) w))
 
   held-agreed : (bs : List (List Collection)) → Ready cr bs → AgreedIn (messageHeld cr bs)
   held-agreed bs r =
@@ -209,10 +212,10 @@ module _ (cr : Creditor) (k : GoodCreditor cr) where
 module _ (cr : Creditor) where
   batches-count : (bs : List (List Collection)) → length (all part.batch (messageHeld cr bs)) ≡ length bs
   batches-count bs =
-      length-all part.batch (messageHeld cr bs) ∙ ap length (message-batches cr bs) ∙ length-map (number 1 bs) (batchHeld cr) ∙ length-number 1 bs
+      length-all (λ c. c .part) part.batch (messageHeld cr bs) ∙ ap length (message-batches cr bs) ∙ length-map (number 1 bs) (batchHeld cr) ∙ length-number 1 bs
 
   transactions-in : (n : ℕ) (b : List Collection) → length (all part.transaction (batchHeld cr (n, b))) ≡ length b
-  transactions-in n b = length-all part.transaction (batchHeld cr (n, b)) ∙ ap length (transactions-held cr n b) ∙ length-map b transactionHeld
+  transactions-in n b = length-all (λ c. c .part) part.transaction (batchHeld cr (n, b)) ∙ ap length (transactions-held cr n b) ∙ length-map b transactionHeld
 
   transactions-count : (n : ℕ) (bs : List (List Collection)) → length (all part.transaction (gather (batchHeld cr) (number n bs))) ≡ length (concat bs)
   transactions-count n [] = refl

@@ -2,20 +2,21 @@
 --   Content                the part of an element, what its text is judged, and the text
 --   contents t r           the contents of the tree t in the order of the opening tags, before r
 --   contentOf s t          what the element t holds, of the message s
---   is, before, parts, all, the     as for what a message says
+--   is, before, parts, all, the     the elements of a part, as Sections says
 --   worth o, textOf o      what a text tells, and the text; 0 and empty where there is none
 --   termsIn p, collectionIn k p, collectionsIn p, carriedOf cs   the collections
 --   ProfileIn cs           as InProfile: the limits of batches and transactions, and the texts
 --   AgreedIn cs            as AllAgree: every declared count and sum is that of the collections
 use Prim.Native.Nat.{ℕ, _≤_}
-use mathlib.Core.Bool.{Bool, true, false}
+use mathlib.Core.Bool.{Bool}
 use mathlib.Core.List.{List, [], _∷_, map}
 use mathlib.Core.Option.{Option, none, some}
 use mathlib.Core.Path.{_≡_}
-use lib.Dec.{T, eqb}
+use lib.Dec.{T}
 use lib.ListN.{length, take, drop}
 use Rattle.laws.specs.Bytes.{Bytes}
 use Rattle.laws.specs.Lists.{total, All, concat}
+use Rattle.laws.specs.Sections as sections
 use Rattle.profile.specs.Limits.{mostBatches, mostTransactions}
 use Rattle.text.specs.declared.Judged.{Judged}
 use Rattle.text.specs.Rules.{told, good}
@@ -52,26 +53,19 @@ contentOf s t = record { part = t .part; judged = t .judged; text = take (t .len
 -- ─── finding elements ───
 
 abbrev pub is : ℕ → Content → Bool
-is n t = eqb (t .part) n
+is = sections.is (λ c. c .part)
 
 abbrev pub before : ℕ → List Content → List Content
-before n [] = []
-before n (t ∷ ts) = elim (is n t) [ true ↦ [] | false ↦ t ∷ before n ts ]
+before = sections.before (λ c. c .part)
 
 abbrev pub parts : ℕ → List Content → List (List Content)
-parts n [] = []
-parts n (t ∷ ts) = elim (is n t) [ true ↦ (t ∷ before n ts) ∷ parts n ts | false ↦ parts n ts ]
+parts = sections.parts (λ c. c .part)
 
 abbrev pub all : ℕ → List Content → List Content
-all n [] = []
-all n (t ∷ ts) = elim (is n t) [ true ↦ t ∷ all n ts | false ↦ all n ts ]
-
-abbrev pub lastOr : Option Content → List Content → Option Content
-lastOr d [] = d
-lastOr d (t ∷ ts) = lastOr (some t) ts
+all = sections.all (λ c. c .part)
 
 abbrev pub the : ℕ → List Content → Option Content
-the n ts = lastOr none (all n ts)
+the = sections.the (λ c. c .part)
 
 -- ─── collections ───
 

@@ -2,20 +2,18 @@
 --   textOf s e, judgedAs k x   the text of the event e in the message s; a text judged by the kind of its element
 --   told s e, tell s es        an event, and all events, with what their texts are judged
 --   worth t                    the number that a text tells; 0 where it tells none or breaks its rule
---   is n t                     the element plays the part n
---   parts n ts                 each element of the part n with the events up to the next of that part
---   all n ts, the n ts         the elements of the part n; the one of them, or none
+--   is, before, parts, all, lastOr, the   the elements of a part, as Sections says
 --   Transaction, Batch         what is said of each; transactionOf, batchOf: from the events of its part
 --   batchesOf ts               the batches of a message, in order
 --   count b, sum b             a batch's number of transactions, and their cents
 use Prim.Native.Nat.{ℕ}
-use mathlib.Core.Bool.{Bool, true, false}
-use mathlib.Core.List.{List, [], _∷_, map}
+use mathlib.Core.Bool.{Bool}
+use mathlib.Core.List.{List, map}
 use mathlib.Core.Option.{Option, none, some}
-use lib.Dec.{eqb}
 use lib.ListN.{length, take, drop}
 use Rattle.laws.specs.Bytes.{Bytes}
 use Rattle.laws.specs.Lists.{total}
+use Rattle.laws.specs.Sections as sections
 use Rattle.text.specs.declared.Judged.{Judged}
 use Rattle.text.specs.declared.Judged.the-variants.{Good}
 use Rattle.text.specs.Rules as rules
@@ -47,28 +45,23 @@ worth t = rules.told (t .judged)
 -- ─── 2. Finding elements among the events ───
 
 abbrev pub is : ℕ → Told → Bool
-is n t = eqb (t .part) n
+is = sections.is (λ t. t .part)
 
--- the events before the first element of the part n
 abbrev pub before : ℕ → List Told → List Told
-before n [] = []
-before n (t ∷ ts) = elim (is n t) [ true ↦ [] | false ↦ t ∷ before n ts ]
+before = sections.before (λ t. t .part)
 
 abbrev pub parts : ℕ → List Told → List (List Told)
-parts n [] = []
-parts n (t ∷ ts) = elim (is n t) [ true ↦ (t ∷ before n ts) ∷ parts n ts | false ↦ parts n ts ]
+parts = sections.parts (λ t. t .part)
 
 abbrev pub all : ℕ → List Told → List Told
-all n [] = []
-all n (t ∷ ts) = elim (is n t) [ true ↦ t ∷ all n ts | false ↦ all n ts ]
+all = sections.all (λ t. t .part)
 
--- where there are several, which no tree of the profile has at the places asked for, the last one
 abbrev pub lastOr : Option Told → List Told → Option Told
-lastOr d [] = d
-lastOr d (t ∷ ts) = lastOr (some t) ts
+lastOr = sections.lastOr
 
+-- no tree of the profile has several at the places asked for
 abbrev pub the : ℕ → List Told → Option Told
-the n ts = lastOr none (all n ts)
+the = sections.the (λ t. t .part)
 
 -- ─── 3. Transactions and batches ───
 

@@ -1,0 +1,66 @@
+-- THE LAWS OF `is`, `before`, `parts`, `all`, `lastOr` AND `the`.
+--   map-before, map-parts, map-all, map-the   what is found among elements that are made of others is made of what is found among those
+--   length-all                                there are as many elements of a part as its parts
+use Prim.Native.Nat.{ℕ, suc}
+use mathlib.Core.Bool.{Bool, true, false}
+use mathlib.Core.List.{List, [], _∷_, map}
+use mathlib.Core.Option.{Option, none, some}
+use mathlib.Core.Path.{_≡_, refl, ap, ap₂, _∙_}
+use lib.ListN.{length}
+use Rattle.laws.specs.Sections.{is, before, parts, all, lastOr, the}
+
+-- h makes an element of another, and keeps its part
+module _ {A B : Type 0} (h : A → B) (part : B → ℕ) (n : ℕ) where
+  abbrev of : A → ℕ
+  of x = part (h x)
+
+  pub map-before : (xs : List A) → map h (before of n xs) ≡ before part n (map h xs)
+  map-before [] = refl
+  map-before (x ∷ xs) = go (is of n x) (map-before xs)
+    where
+      go : (z : Bool) → map h (before of n xs) ≡ before part n (map h xs)
+          → map h (elim z [ true ↦ [] | false ↦ x ∷ before of n xs ]) ≡ elim z [ true ↦ [] | false ↦ h x ∷ before part n (map h xs) ]
+      go true e = refl
+      go false e = ap {B = List B} (λ (l : List B). h x ∷ l) e
+
+  pub map-parts : (xs : List A) → map (map h) (parts of n xs) ≡ parts part n (map h xs)
+  map-parts [] = refl
+  map-parts (x ∷ xs) = go (is of n x) (map-before xs) (map-parts xs)
+    where
+      go : (z : Bool) → map h (before of n xs) ≡ before part n (map h xs) → map (map h) (parts of n xs) ≡ parts part n (map h xs)
+          → map (map h) (elim z [ true ↦ (x ∷ before of n xs) ∷ parts of n xs | false ↦ parts of n xs ])
+          ≡ elim z [ true ↦ (h x ∷ before part n (map h xs)) ∷ parts part n (map h xs) | false ↦ parts part n (map h xs) ]
+      go true b e = ap₂ {C = List (List B)} (λ (l : List B) (r : List (List B)). (h x ∷ l) ∷ r) b e
+      go false b e = e
+
+  pub map-all : (xs : List A) → map h (all of n xs) ≡ all part n (map h xs)
+  map-all [] = refl
+  map-all (x ∷ xs) = go (is of n x) (map-all xs)
+    where
+      go : (z : Bool) → map h (all of n xs) ≡ all part n (map h xs)
+          → map h (elim z [ true ↦ x ∷ all of n xs | false ↦ all of n xs ]) ≡ elim z [ true ↦ h x ∷ all part n (map h xs) | false ↦ all part n (map h xs) ]
+      go true e = ap {B = List B} (λ (l : List B). h x ∷ l) e
+      go false e = e
+
+abbrev pub mapIf : {A B : Type 0} → (A → B) → Option A → Option B
+mapIf h none = none
+mapIf h (some x) = some (h x)
+
+module _ {A B : Type 0} (h : A → B) where
+  map-last : (o : Option A) (xs : List A) → mapIf h (lastOr o xs) ≡ lastOr (mapIf h o) (map h xs)
+  map-last o [] = refl
+  map-last o (x ∷ xs) = map-last (some x) xs
+
+  pub map-the : (part : B → ℕ) (n : ℕ) (xs : List A) → mapIf h (the (λ x. part (h x)) n xs) ≡ the part n (map h xs)
+  map-the part n xs = map-last none (all (λ x. part (h x)) n xs) ∙ ap (lastOr none) (map-all h part n xs)
+
+module _ {A : Type 0} (part : A → ℕ) (n : ℕ) where
+  pub length-all : (xs : List A) → length (all part n xs) ≡ length (parts part n xs)
+  length-all [] = refl
+  length-all (x ∷ xs) = go (is part n x) (length-all xs)
+    where
+      go : (z : Bool) → length (all part n xs) ≡ length (parts part n xs)
+          → length {A = A} (elim z [ true ↦ x ∷ all part n xs | false ↦ all part n xs ])
+          ≡ length {A = List A} (elim z [ true ↦ (x ∷ before part n xs) ∷ parts part n xs | false ↦ parts part n xs ])
+      go true e = ap suc e
+      go false e = e
