@@ -2,6 +2,7 @@
 --   must-good, next-good   where good comes out, the test held, the stage found no fault, and what was left to the rest is good
 --   of-good                and the line was good
 --   good-list              a good list of n collections is within the limits, has n + 1 lines, and neither 23 nor 26 finds a fault
+--   good-lent              what it lends to be labelled: the front of a table of starts, and of the labels
 --   frames-each            then each line holds the frame of its kind, and LF ends it
 --   values-each            and each line's values are good
 use Prim.Native.Nat.{ℕ, zero, suc, _+_, _-_, _<_, _≤_}
@@ -11,7 +12,8 @@ use mathlib.Core.Bool.{Bool, true, false}
 use mathlib.Core.List.{List, [], _∷_}
 use mathlib.Core.Path.{_≡_, refl}
 use lib.Dec.{leb}
-use lib.ListN.{length, getD}
+use lib.ListN.{length, take, getD}
+use lib.Seq.{length-take-le}
 use borrow.Author.Tests.{leb-true}
 use Rattle.laws.specs.Bytes.{Bytes, between}
 use Rattle.laws.proofs.Tests.{and-l, and-r, T-true, true-T}
@@ -84,6 +86,11 @@ good-list s c n e =
   where
     told : (a b : ℕ) → _≡_ {A = JudgedList} (Good a) (Good b) → a ≡ b
     told a b e = cc
+
+-- the front of a list of numbers as long as there are collections, and of one as long as there are lines
+pub good-lent : (s : Bytes) (c n : ℕ) (t l : List ℕ) → judgedList s c ≡ Good n → n ≤ length l → n + 1 ≤ length t
+    → (judgedList s c ≡ Good (length (take n l))) × (length (take (n + 1) t) ≡ length (take n l) + 1)
+good-lent s c n t l e h k = rw (length-take-le n l h, length-take-le (n + 1) t k) (e, refl)
 
 pub of-good : (j : Judged) (k n : ℕ) (r : JudgedList) → ofLine j k r ≡ Good n → (good j ≡ true) × (r ≡ Good n)
 of-good (Fine m) k n r e = (refl, e)

@@ -11,7 +11,6 @@
 use Prim.Native.Nat.{ℕ, zero, suc, _+_, _-_, _<_, _≤_, min}
 use native.Mathlib.Nat.{not-suc-le-zero, le-of-suc-le-suc}
 use native.Mathlib.Numerals.{add-one}
-use native.Mathlib.Decide.{decLe}
 use native.Mathlib.Omega.{arith}
 use mathlib.Core.Bool.{Bool, true, false, and-false}
 use mathlib.Core.Logic.{_⊎_, inl, inr}
@@ -34,7 +33,7 @@ use Rattle.frames.specs.Fields.{creditorFields, collectionFields, fieldsOf, jud
 use Rattle.frames.specs.Frames.{creditor, collection, frameOf, leadOf, textsOf, texts}
 use Rattle.daylist.specs.Values.{judgedLead, judgedTexts, else, firstBad}
 use Rattle.frames.proofs.Cuts.{by-first, by-further, by-ap}
-use Rattle.daylist.proofs.Leads.{take-there}
+use Rattle.daylist.proofs.Leads.{take-there, drop-there}
 
 pub past : (n i : ℕ) → n ≤ i → (i ≡ n → ⊥) → suc n ≤ i
 past n i h d = omega (arith, d)
@@ -89,13 +88,6 @@ module _ (f : Field) (s : Bytes) where
   pub field-text : (f .«may_be_empty» ≡ false) ⊎ (length s ≡ 0 → ⊥) → judgedField f s ≡ judged (f .rule) s
   field-text (inl e) = rw (e, judgedField)
   field-text (inr d) = rw (ne-eqb (length s) 0 d, and-false (f .«may_be_empty»), judgedField)
-
-drop-there : (n m : ℕ) (s : Bytes) → m ≡ min n (length s) → drop n s ≡ drop m s
-drop-there n m s e = go (decLe n (length s))
-  where
-    go : Dec (n ≤ length s) → drop n s ≡ drop m s
-    go (yes h) = let d : n ≡ m = omega (arith, e) in rw d
-    go (no h) = drop-of-length-le s {i = n} (omega arith) ∙ sym (drop-of-length-le s {i = m} (omega (arith, e)))
 
 no-texts : (n : ℕ) (fs : List Field) → judgedTexts fs (texts n []) ≡ []
 no-texts zero [] = refl

@@ -1,5 +1,5 @@
 -- A NUMBER READ HIGH BYTE FIRST: v is what was read before the place `at`, and the bytes before the place `end` count.
---   take-there           of the bytes that are asked for, those that are there
+--   take-there, drop-there   of the bytes that are asked for, those that are there; the bytes behind them
 --   high-start           the bytes that count, where fewer may be there than are asked for
 --   high-go, high-end    one byte more is taken; none is left
 --   high-more, high-under   with one byte more it stays below its power of 256, and so below each later power
@@ -9,7 +9,7 @@ use native.Mathlib.Numerals.{add-one}
 use native.Mathlib.Decide.{decLe}
 use native.Mathlib.Omega.{arith}
 use mathlib.Core.Path.{_≡_, sym, _∙_, ap}
-use lib.ListN.{length, take, drop, getD, length-drop}
+use lib.ListN.{length, take, drop, getD, length-drop, drop-of-length-le}
 use lib.Seq.{take-all}
 use Rattle.laws.specs.Bytes.{Bytes}
 use Rattle.laws.proofs.Loops.{drop-step}
@@ -22,6 +22,13 @@ take-there n m s e = go (decLe n (length s))
     go : Dec (n ≤ length s) → take n s ≡ take m s
     go (yes h) = let d : n ≡ m = omega (arith, e) in rw d
     go (no h) = take-all n s (omega arith) ∙ sym (take-all m s (omega (arith, e)))
+
+pub drop-there : (n m : ℕ) (s : Bytes) → m ≡ min n (length s) → drop n s ≡ drop m s
+drop-there n m s e = go (decLe n (length s))
+  where
+    go : Dec (n ≤ length s) → drop n s ≡ drop m s
+    go (yes h) = let d : n ≡ m = omega (arith, e) in rw d
+    go (no h) = drop-of-length-le s {i = n} (omega arith) ∙ sym (drop-of-length-le s {i = m} (omega (arith, e)))
 
 module _ (s : Bytes) (from count end : ℕ) where
   pub high-start : end ≡ min (from + count) (length s) → highFirst (take count (drop from s)) ≡ highFirst (take (end - from) (drop from s))

@@ -1,9 +1,11 @@
 -- Leads    a number read high byte first        Judging   the fields of a line, one by one
--- Stops    the stages, line by line             Goods     what a good list is
+-- Ends     where a line ends                    Stops     the stages, line by line
+-- Goods    what a good list is
 -- Early    the refusals of a list that is judged are 21 to 26
 -- Cases    some lists and what is told of each, computed; the list of the examples
 pub mod Leads
 pub mod Judging
+pub mod Ends
 pub mod Stops
 pub mod Goods
 pub mod Early

@@ -1,4 +1,4 @@
--- THE STAGES, line by line: k lines are done, `at` is where the next line starts, and n bytes of it stand before the next LF.
+-- THE STAGES, line by line: k lines are done, `at` is where the next line starts, and `end` where it ends.
 --   frames-lacks, frames-not             23 finds a fault: the line lacks LF, or is not hexadecimal and a frame of its kind
 --   frames-go, frames-end                the line is a frame; there is none
 --   frames-count                         where each line is a frame, their number is told
@@ -28,34 +28,34 @@ use Rattle.frames.specs.Hex.{hex, unhex}
 use Rattle.frames.specs.Frames.{frameOf, framed, isFrame}
 use Rattle.daylist.specs.Values.{judgedLine}
 use Rattle.daylist.specs.Stages.{must, framesFrom, ofLine, valuesFrom, judgedLines, judgedList}
-use Rattle.frames.proofs.Cuts.{next-line, end-line}
+use Rattle.daylist.proofs.Ends.{next-there, last-there}
 
-module _ (s : Bytes) (at n : ℕ) (e : span notEnd (drop at s) ≡ n) where
+module _ (s : Bytes) (at end : ℕ) (e : end ≡ at + span notEnd (drop at s)) where
   module _ (k : ℕ) where
-    pub frames-lacks : at < length s → at + n ≡ length s → Refused (NotAFrame (k + 1)) ≡ framesFrom k (lines (drop at s))
-    frames-lacks h l = rw (end-line s at n e h l)
+    pub frames-lacks : at < length s → end ≡ length s → Refused (NotAFrame (k + 1)) ≡ framesFrom k (lines (drop at s))
+    frames-lacks h l = rw (last-there s at end e h l)
 
-    module _ (h : at + n < length s) where
-      pub frames-not : (hex (take (at + n - at) (drop at s)) && framed (frameOf (k + 1)) (unhex (take (at + n - at) (drop at s)))) ≡ false → Refused (NotAFrame (k + 1)) ≡ framesFrom k (lines (drop at s))
-      frames-not x = rw (next-line s at n e h, x)
+    module _ (h : end < length s) where
+      pub frames-not : (hex (take (end - at) (drop at s)) && framed (frameOf (k + 1)) (unhex (take (end - at) (drop at s)))) ≡ false → Refused (NotAFrame (k + 1)) ≡ framesFrom k (lines (drop at s))
+      frames-not x = rw (next-there s at end e h, x)
 
-      pub frames-go : (hex (take (at + n - at) (drop at s)) && framed (frameOf (k + 1)) (unhex (take (at + n - at) (drop at s)))) ≡ true
-          → framesFrom k (lines (drop at s)) ≡ framesFrom (k + 1) (lines (drop (at + n + 1) s))
-      frames-go x = rw (next-line s at n e h, x)
+      pub frames-go : (hex (take (end - at) (drop at s)) && framed (frameOf (k + 1)) (unhex (take (end - at) (drop at s)))) ≡ true
+          → framesFrom k (lines (drop at s)) ≡ framesFrom (k + 1) (lines (drop (end + 1) s))
+      frames-go x = rw (next-there s at end e h, x)
 
     -- a line's values count whether LF ends it or not
-    values-line : at < length s → valuesFrom k (lines (drop at s)) ≡ ofLine (judgedLine (k + 1) (unhex (take (at + n - at) (drop at s)))) (k + 1) (valuesFrom (k + 1) (lines (drop (at + n + 1) s)))
-    values-line h = go (decLt (at + n) (length s))
+    values-line : at < length s → valuesFrom k (lines (drop at s)) ≡ ofLine (judgedLine (k + 1) (unhex (take (end - at) (drop at s)))) (k + 1) (valuesFrom (k + 1) (lines (drop (end + 1) s)))
+    values-line h = go (decLt (end) (length s))
       where
-        go : Dec (at + n < length s) → valuesFrom k (lines (drop at s)) ≡ ofLine (judgedLine (k + 1) (unhex (take (at + n - at) (drop at s)))) (k + 1) (valuesFrom (k + 1) (lines (drop (at + n + 1) s)))
-        go (yes l) = rw (next-line s at n e l)
-        go (no l) = rw (end-line s at n e h (omega (arith, e, span-le notEnd (drop at s), length-drop at s)), drop-of-length-le s {i = at + n + 1} (omega arith))
+        go : Dec (end < length s) → valuesFrom k (lines (drop at s)) ≡ ofLine (judgedLine (k + 1) (unhex (take (end - at) (drop at s)))) (k + 1) (valuesFrom (k + 1) (lines (drop (end + 1) s)))
+        go (yes l) = rw (next-there s at end e l)
+        go (no l) = rw (last-there s at end e h (omega (arith, e, span-le notEnd (drop at s), length-drop at s)), drop-of-length-le s {i = end + 1} (omega arith))
 
-    pub values-bad : (f : Flaw) → at < length s → judgedLine (k + 1) (unhex (take (at + n - at) (drop at s))) ≡ Bad f → Refused (Value f (k + 1)) ≡ valuesFrom k (lines (drop at s))
-    values-bad f h b = sym (values-line h ∙ ap (λ j. ofLine j (k + 1) (valuesFrom (k + 1) (lines (drop (at + n + 1) s)))) b)
+    pub values-bad : (f : Flaw) → at < length s → judgedLine (k + 1) (unhex (take (end - at) (drop at s))) ≡ Bad f → Refused (Value f (k + 1)) ≡ valuesFrom k (lines (drop at s))
+    values-bad f h b = sym (values-line h ∙ ap (λ j. ofLine j (k + 1) (valuesFrom (k + 1) (lines (drop (end + 1) s)))) b)
 
-    pub values-go : (m : ℕ) → at < length s → judgedLine (k + 1) (unhex (take (at + n - at) (drop at s))) ≡ Fine m → valuesFrom k (lines (drop at s)) ≡ valuesFrom (k + 1) (lines (drop (at + n + 1) s))
-    values-go m h b = values-line h ∙ ap (λ j. ofLine j (k + 1) (valuesFrom (k + 1) (lines (drop (at + n + 1) s)))) b
+    pub values-go : (m : ℕ) → at < length s → judgedLine (k + 1) (unhex (take (end - at) (drop at s))) ≡ Fine m → valuesFrom k (lines (drop at s)) ≡ valuesFrom (k + 1) (lines (drop (end + 1) s))
+    values-go m h b = values-line h ∙ ap (λ j. ofLine j (k + 1) (valuesFrom (k + 1) (lines (drop (end + 1) s)))) b
 
 module _ (s : Bytes) (at k : ℕ) where
   pub frames-end : length s ≤ at → Good k ≡ framesFrom k (lines (drop at s))

@@ -1,11 +1,13 @@
 // The day list: the values of its lines, and the refusals 21 to 26. Any bytes are judged, at any ceiling.
 //
+//   lines    where the lines of a list end
 //   values   the values of a line, field by field
 //   stages   the stages that go over all lines: refusals 23 and 26
 ghost use mathlib.Core.Path.{_≡_};
 ghost use Rattle.daylist.specs.Stages.{judgedList};
 use profile::ListRefusal;
 
+pub mod lines;
 pub mod stages;
 pub mod values;
 

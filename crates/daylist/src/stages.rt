@@ -9,6 +9,7 @@ ghost use Rattle.frames.specs.Hex.{hex, unhex};
 ghost use Rattle.frames.specs.Frames.{frameOf, framed};
 ghost use Rattle.daylist.specs.Stages.{framesFrom, valuesFrom};
 use crate::JudgedList;
+use crate::lines;
 use crate::values;
 use profile::ListRefusal;
 use text::Judged;
@@ -30,7 +31,7 @@ pub fn judge_frames(list: &[u8]) -> JudgedList
     let mut done = 0;
     let mut at = 0;
     while at < list.len() {
-        let end = at + frames::lines::line_length(&list[at..]);
+        let end = lines::line_end(list, at);
         if end == list.len() {
             return JudgedList::Refused(ListRefusal::NotAFrame(done + 1));
         }
@@ -51,7 +52,7 @@ pub fn judge_values(list: &[u8]) -> JudgedList
     let mut done = 0;
     let mut at = 0;
     while at < list.len() {
-        let end = at + frames::lines::line_length(&list[at..]);
+        let end = lines::line_end(list, at);
         if let Judged::Bad(flaw) = values::judge_line(&list[at..end], done + 1) {
             return JudgedList::Refused(ListRefusal::Value(flaw, done + 1));
         }

@@ -25,6 +25,7 @@ use Rattle.frames.specs.Hex.{unhex}
 use Rattle.frames.specs.Frames.{texts}
 use Rattle.frames.proofs.Starts.{line-at, start-within, starts-number}
 use Rattle.daylist.proofs.Leads.{take-there}
+use Rattle.daylist.proofs.Ends.{part-is}
 use Rattle.listed.specs.Listed.{Collection, collectionOf, listed}
 use Rattle.listed.specs.Numbers.{termsNumber, numbersOf}
 
@@ -111,11 +112,9 @@ module _ (s : Bytes) (t : List ℕ) (e : t ≡ starts s) (i : ℕ) (h : i + 1 < 
   pub start-there : getD t (i + 1) 0 < length s
   start-there = rw e (start-within none s (i + 1) line-there)
 
-  pub number-read : (n r : ℕ) → n ≡ span notEnd (drop (getD t (i + 1) 0) s)
-      → r ≡ termsNumber (collectionOf (unhex (take (getD t (i + 1) 0 + n - getD t (i + 1) 0) (drop (getD t (i + 1) 0) s))) .terms) → r ≡ getD (numbersOf s) i 0
-  number-read n r f g =
-      let k : getD t (i + 1) 0 + n - getD t (i + 1) 0 ≡ n = omega arith in
-      g ∙ rw (k, f, e) (sym (number-at s i line-there))
+  pub number-read : (end r : ℕ) → end ≡ getD t (i + 1) 0 + span notEnd (drop (getD t (i + 1) 0) s)
+      → r ≡ termsNumber (collectionOf (unhex (take (end - getD t (i + 1) 0) (drop (getD t (i + 1) 0) s))) .terms) → r ≡ getD (numbersOf s) i 0
+  number-read end r f g = g ∙ rw (part-is s (getD t (i + 1) 0) end f, e) (sym (number-at s i line-there))
 
 pub starts-whole : (s : Bytes) (t : List ℕ) → length t ≡ length (lines s) → putAt t 0 (take (length t) (starts s)) ≡ starts s
 starts-whole s t h = rw (take-all (length t) (starts s) (omega (arith, starts-number s))) (put-all t (starts s) (omega (arith, starts-number s)))

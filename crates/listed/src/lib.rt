@@ -55,7 +55,7 @@ pub fn terms_numbers(list: &[u8], table: &[usize], numbers: &mut [u64])
     let mut i = 0;
     while i < numbers.len() {
         let at = table[i + 1];
-        let end = at + frames::lines::line_length(&list[at..]);
+        let end = daylist::lines::line_end(list, at);
         numbers[i] = terms_number(&list[at..end]);
         i += 1;
     }

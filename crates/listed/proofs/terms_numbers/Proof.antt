@@ -1,12 +1,8 @@
 -- `listed::terms_numbers` meets its contract. The invariant: with the numbers of the collections from i on put behind those that are written, they are all that is promised.
 use Rattle.listed.proofs.Lines.{numbers-fit, row-there, set-less, set-within, start-there, number-read}
 use Rattle.listed.specs.Numbers.{numbersOf}
-use Rattle.frames.proofs.Cuts.{line-within}
-use Rattle.frames.specs.Lines.{notEnd}
-use Rattle.laws.proofs.Loops.{drop-part}
 use Rattle.laws.proofs.Puts.{put-nil, put-all, put-step}
 use Rattle.laws.specs.Put.{putAt}
-use Rattle.laws.specs.Bytes.{span}
 use lib.ListN.{length, drop, getD, set, length-set, drop-of-length-le}
 use mathlib.Core.Path.{_≡_, refl, sym, _∙_, ap}
 use native.Mathlib.Nat.{le-of-lt}
@@ -30,18 +26,6 @@ there c =
     let p = c .before .before .before .before .before .pre in
     start-there (x .list .now) (x .table .now) (p .0) (c .before .loop .i) (row-there _ _ _ _ (c .loop-test .taken) (c .before .loop .inv .0) (p .1))
 
--- how far its LF is
-length-is : (c : tie.After-line-length Inv-loop μ-loop) → c .line-length .result ≡ span notEnd (drop (getD (c .before .before .before .before .before .before .before .before .args .table .now) (c .before .before .before .before .loop .i + 1) 0) (c .before .before .before .before .before .before .before .before .args .list .now))
-length-is c =
-    let x = c .before .before .before .before .before .before .before .before .args in
-    c .line-length .ensures ∙ ap (span notEnd) (drop-part (getD (x .table .now) (c .before .before .before .before .loop .i + 1) 0) (x .list .now))
-
--- it is no farther than the end
-within : (c : tie.After-line-length Inv-loop μ-loop) → getD (c .before .before .before .before .before .before .before .before .args .table .now) (c .before .before .before .before .loop .i + 1) 0 + c .line-length .result ≤ length (c .before .before .before .before .before .before .before .before .args .list .now)
-within c =
-    let x = c .before .before .before .before .before .before .before .before .args in
-    line-within (x .list .now) (getD (x .table .now) (c .before .before .before .before .loop .i + 1) 0) (c .line-length .result) (sym (length-is c)) (there (c .before .before .before))
-
 loop-holds : tie.Need-loop-holds Inv-loop μ-loop
 loop-holds c =
     let x = c .before .before .before .args in
@@ -57,20 +41,8 @@ mul-at c = search needs
 shared-slice-read-at : tie.Need-shared-slice-read-at Inv-loop μ-loop
 shared-slice-read-at c = search needs
 
-sub-line-length : tie.Need-sub-line-length Inv-loop μ-loop
-sub-line-length c = le-of-lt (there (c .before))
-
-part-line-length-start : tie.Need-part-line-length-start Inv-loop μ-loop
-part-line-length-start c = le-of-lt (there (c .before))
-
-part-line-length-end : tie.Need-part-line-length-end Inv-loop μ-loop
-part-line-length-end c = search needs
-
-line-length-requires : tie.Need-line-length-requires Inv-loop μ-loop
-line-length-requires c κs = search needs
-
-add-end : tie.Need-add-end Inv-loop μ-loop
-add-end c = record { fits = omega (arith, within c) }
+line-end-requires : tie.Need-line-end-requires Inv-loop μ-loop
+line-end-requires c κs = le-of-lt (there (c .before))
 
 sub-terms-number : tie.Need-sub-terms-number Inv-loop μ-loop
 sub-terms-number c = search needs
@@ -79,7 +51,7 @@ part-terms-number-start : tie.Need-part-terms-number-start Inv-loop μ-loop
 part-terms-number-start c = search needs
 
 part-terms-number-end : tie.Need-part-terms-number-end Inv-loop μ-loop
-part-terms-number-end c = within c
+part-terms-number-end c = search needs
 
 terms-number-requires : tie.Need-terms-number-requires Inv-loop μ-loop
 terms-number-requires c κs = search needs
@@ -94,15 +66,15 @@ add-i : tie.Need-add-i Inv-loop μ-loop
 add-i c = search needs
 
 loop-less : tie.Need-loop-less Inv-loop μ-loop
-loop-less c = let l = c .before .before .before .before .before .before .loop in set-less (l .numbers) (l .i) _ (c .before .before .before .before .before .loop-test .taken)
+loop-less c = let l = c .before .before .before .before .before .loop in set-less (l .numbers) (l .i) _ (c .before .before .before .before .loop-test .taken)
 
 loop-again : tie.Need-loop-again Inv-loop μ-loop
 loop-again c =
-    let l = c .before .before .before .before .before .before .loop in
-    let x = c .before .before .before .before .before .before .before .before .before .before .args in
-    let p = c .before .before .before .before .before .before .before .before .before .before .pre in
-    let h = c .before .before .before .before .before .loop-test .taken in
-    let r = number-read (x .list .now) (x .table .now) (p .0) (l .i) (row-there _ _ _ _ h (l .inv .0) (p .1)) (c .before .before .line-length .result) (c .terms-number .result) (length-is (c .before .before)) (c .terms-number .ensures) in
+    let l = c .before .before .before .before .before .loop in
+    let x = c .before .before .before .before .before .before .before .before .before .args in
+    let p = c .before .before .before .before .before .before .before .before .before .pre in
+    let h = c .before .before .before .before .loop-test .taken in
+    let r = number-read (x .list .now) (x .table .now) (p .0) (l .i) (row-there _ _ _ _ h (l .inv .0) (p .1)) _ (c .terms-number .result) (c .before .before .line-end .ensures .0) (c .terms-number .ensures) in
     let n : l .i < length (numbersOf (x .list .now)) = rw (← numbers-fit (x .list .now) (x .table .now) (length (x .numbers .now)) (p .0) (p .1), ← (l .inv .0)) h in (
       simp length-set (l .inv .0),
       set-within (l .numbers) (l .i) _ h,
@@ -132,11 +104,7 @@ terms-numbers-spec =
     add-at
     mul-at
     shared-slice-read-at
-    sub-line-length
-    part-line-length-start
-    part-line-length-end
-    line-length-requires
-    add-end
+    line-end-requires
     sub-terms-number
     part-terms-number-start
     part-terms-number-end

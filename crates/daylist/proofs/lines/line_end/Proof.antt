@@ -1,9 +1,9 @@
--- `batched::line_end` meets its contract.
-use Rattle.batched.proofs.Ends.{end-is, end-within}
+-- `daylist::lines::line_end` meets its contract.
+use Rattle.daylist.proofs.Ends.{end-is, end-within}
 use native.Mathlib.Omega.{arith}
 use borrow.Author.Needs.{needs}
-use Rattle.batched.proofs.line_end.Statement.{statement}
-use Rattle.batched.proofs.line_end.Tie as tie
+use Rattle.daylist.proofs.lines.line_end.Statement.{statement}
+use Rattle.daylist.proofs.lines.line_end.Tie as tie
 
 sub-line-length : tie.Need-sub-line-length
 sub-line-length c = search needs

@@ -1,14 +1,11 @@
 -- `daylist::stages::judge_values` meets its contract. The invariant: the list is judged as its rest from `at` on is, behind the lines that are done.
 use Rattle.daylist.proofs.Stops.{values-bad, values-go, values-end}
 use Rattle.daylist.specs.Stages.{valuesFrom}
-use Rattle.frames.proofs.Cuts.{line-within}
-use Rattle.frames.specs.Lines.{notEnd, lines}
-use Rattle.laws.proofs.Loops.{drop-part}
-use Rattle.laws.specs.Bytes.{span}
+use Rattle.frames.specs.Lines.{lines}
 use lib.ListN.{length, drop}
-use mathlib.Core.Path.{_≡_, refl, sym, _∙_, ap}
+use mathlib.Core.Path.{_≡_, refl, sym, _∙_}
 use native.Mathlib.Omega.{arith}
-use Prim.Native.Nat.{_-_, _≤_, _+_}
+use Prim.Native.Nat.{_-_, _≤_}
 use borrow.Author.Needs.{needs}
 use Rattle.daylist.proofs.stages.judge_values.Statement.{statement}
 use Rattle.daylist.proofs.stages.judge_values.Tie as tie
@@ -19,31 +16,11 @@ Inv-loop list done₀ at₀ done at = (done ≤ at) × (valuesFrom 0 (lines list
 abbrev μ-loop : tie.MeasureT-loop
 μ-loop list done₀ at₀ done at = length list - at
 
--- how far the next LF is
-length-is : (c : tie.After-line-length Inv-loop μ-loop) → span notEnd (drop (c .before .before .before .loop .at) (c .before .before .before .before .before .args .list .now)) ≡ c .line-length .result
-length-is c = sym (c .line-length .ensures ∙ ap (span notEnd) (drop-part (c .before .before .before .loop .at) (c .before .before .before .before .before .args .list .now)))
-
--- it is no farther than the end
-within : (c : tie.After-line-length Inv-loop μ-loop) → c .before .before .before .loop .at + c .line-length .result ≤ length (c .before .before .before .before .before .args .list .now)
-within c = line-within (c .before .before .before .before .before .args .list .now) (c .before .before .before .loop .at) (c .line-length .result) (length-is c) (c .before .before .loop-test .taken)
-
 loop-holds : tie.Need-loop-holds Inv-loop μ-loop
 loop-holds c = (search needs, refl)
 
-sub-line-length : tie.Need-sub-line-length Inv-loop μ-loop
-sub-line-length c = search needs
-
-part-line-length-start : tie.Need-part-line-length-start Inv-loop μ-loop
-part-line-length-start c = search needs
-
-part-line-length-end : tie.Need-part-line-length-end Inv-loop μ-loop
-part-line-length-end c = search needs
-
-line-length-requires : tie.Need-line-length-requires Inv-loop μ-loop
-line-length-requires c κs = search needs
-
-add-end : tie.Need-add-end Inv-loop μ-loop
-add-end c = omega (arith, within c)
+line-end-requires : tie.Need-line-end-requires Inv-loop μ-loop
+line-end-requires c κs = search needs
 
 sub-judge-line : tie.Need-sub-judge-line Inv-loop μ-loop
 sub-judge-line c = search needs
@@ -52,7 +29,7 @@ part-judge-line-start : tie.Need-part-judge-line-start Inv-loop μ-loop
 part-judge-line-start c = search needs
 
 part-judge-line-end : tie.Need-part-judge-line-end Inv-loop μ-loop
-part-judge-line-end c = within c
+part-judge-line-end c = search needs
 
 add-judge-line : tie.Need-add-judge-line Inv-loop μ-loop
 add-judge-line c = search needs
@@ -63,13 +40,14 @@ judge-line-requires c κs = search needs
 enum-known-flaw : tie.Need-enum-known-flaw Inv-loop μ-loop
 enum-known-flaw c = search needs
 
-add-t16 : tie.Need-add-t16 Inv-loop μ-loop
-add-t16 c = search needs
+add-t13 : tie.Need-add-t13 Inv-loop μ-loop
+add-t13 c = search needs
 
 returns : tie.Need-returns Inv-loop μ-loop
 returns c =
-    let l = c .before .before .before .before .before .before .before .before .loop in
-    values-bad (c .before .before .before .before .before .before .before .before .before .before .args .list .now) (l .at) (c .before .before .before .before .before .line-length .result) (length-is (c .before .before .before .before .before)) (l .done) _ (c .before .before .before .before .before .before .before .loop-test .taken) (sym (c .before .before .before .judge-line .ensures) ∙ c .before .flaw .given .1) ∙ sym (l .inv .1)
+    let l = c .before .before .before .before .before .before .before .loop in
+    values-bad _ (l .at) _ (c .before .before .before .before .before .line-end .ensures .0) (l .done) _ (c .before .before .before .before .before .before .loop-test .taken)
+    (sym (c .before .before .before .judge-line .ensures) ∙ c .before .flaw .given .1) ∙ sym (l .inv .1)
 
 enum-told : tie.Need-enum-told Inv-loop μ-loop
 enum-told c = search needs
@@ -78,18 +56,18 @@ add-done : tie.Need-add-done Inv-loop μ-loop
 add-done c = search needs
 
 add-at : tie.Need-add-at Inv-loop μ-loop
-add-at c = omega (arith, within (c .before .before .before .before), c .before .before .before .before .before .before .before .before .before .pre)
+add-at c = search needs
 
 loop-less : tie.Need-loop-less Inv-loop μ-loop
 loop-less c = omega arith
 
 loop-again : tie.Need-loop-again Inv-loop μ-loop
 loop-again c =
-    let l = c .before .before .before .before .before .before .before .loop in
-    (omega arith, l .inv .1 ∙ values-go (c .before .before .before .before .before .before .before .before .before .args .list .now) (l .at) (c .before .before .before .before .line-length .result) (length-is (c .before .before .before .before)) (l .done) _ (c .before .before .before .before .before .before .loop-test .taken) (sym (c .before .before .judge-line .ensures) ∙ c .enum-told .given .1))
+    let l = c .before .before .before .before .before .before .loop in
+    (omega arith, l .inv .1 ∙ values-go _ (l .at) _ (c .before .before .before .before .line-end .ensures .0) (l .done) _ (c .before .before .before .before .before .loop-test .taken) (sym (c .before .before .judge-line .ensures) ∙ c .enum-told .given .1))
 
 returns-2 : tie.Need-returns-2 Inv-loop μ-loop
-returns-2 c = values-end (c .before .before .before .args .list .now) (c .before .loop .at) (c .before .loop .done) (c .loop-test .left) ∙ sym (c .before .loop .inv .1)
+returns-2 c = values-end _ (c .before .loop .at) (c .before .loop .done) (c .loop-test .left) ∙ sym (c .before .loop .inv .1)
 
 pub judge-values-spec : {M : Type 1} → statement M
 judge-values-spec =
@@ -98,18 +76,14 @@ judge-values-spec =
     Inv-loop
     μ-loop
     loop-holds
-    sub-line-length
-    part-line-length-start
-    part-line-length-end
-    line-length-requires
-    add-end
+    line-end-requires
     sub-judge-line
     part-judge-line-start
     part-judge-line-end
     add-judge-line
     judge-line-requires
     enum-known-flaw
-    add-t16
+    add-t13
     returns
     enum-told
     add-done
