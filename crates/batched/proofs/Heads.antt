@@ -13,8 +13,7 @@ use Rattle.bundle.specs.Labels.{pick}
 use Rattle.put.specs.Wrote.{Wrote}
 use Rattle.listed.specs.Listed.{Terms, Collection, Creditor, listed}
 use Rattle.written.specs.Written.{noCollection, termsOf}
-use Rattle.written.specs.Pieces.{termsBytes, creditorBytes, headBytes}
-use Rattle.pieces.specs.Texts.{totalsOf}
+use Rattle.written.specs.Pieces.{totalsBytes, termsBytes, creditorBytes, headBytes}
 use Rattle.batched.specs.Ready.{collectionAt, Batch}
 use Rattle.batched.proofs.Picks.{pick-first, first-there}
 
@@ -30,6 +29,6 @@ module _ (s : Bytes) (table labels : List ℕ) (k : ℕ) (q : Batch s table labe
 
 pub head-join : {out out′ : Bytes} {at r : ℕ} (cr : Creditor) (n : ℕ) (xs : List Collection) (count sum : ℕ) (t : Terms)
     → count ≡ length xs → sum ≡ total (λ x. x .cents) xs → t ≡ termsOf xs
-    → Wrote out out′ at r (totalsOf n count sum ++ (termsBytes t ++ creditorBytes cr)) → Wrote out out′ at r (headBytes cr n xs)
+    → Wrote out out′ at r (totalsBytes n count sum ++ (termsBytes t ++ creditorBytes cr)) → Wrote out out′ at r (headBytes cr n xs)
 unfolding headBytes
 head-join cr n xs count sum t a b c w = rw (← a, ← b, ← c) w

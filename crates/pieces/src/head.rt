@@ -6,9 +6,8 @@ ghost use Rattle.frames.specs.Hex.{unhex};
 ghost use Rattle.frames.specs.Frames.{framed, creditor, collection};
 ghost use Rattle.put.specs.Wrote.{Wrote};
 ghost use Rattle.listed.specs.Listed.{collectionOf, creditorOf};
-ghost use Rattle.written.specs.Written.{schemeWord, sequenceWord};
-ghost use Rattle.written.specs.Pieces.{termsBytes, creditorBytes, openingBytes};
-ghost use Rattle.pieces.specs.Texts.{idBytes, sumsBytes, totalsOf, openingIds};
+ghost use Rattle.pieces.specs.Texts.{wordAt};
+ghost use Rattle.written.specs.Pieces.{sumsBytes, idBytes, totalsBytes, termsBytes, creditorBytes, idsBytes, openingBytes};
 use crate::texts;
 use profile::ControlSum;
 use profile::NumberOfTransactions;
@@ -44,7 +43,7 @@ pub fn put_totals(
     cents: ControlSum,
 ) -> usize
     requires { ⌜ at + 300 < 2 ^ 32 ⌝ }
-    ensures { λ r. ⌜ Wrote (now (out .entry)) (now (out .exit)) at r (totalsOf number (count .0) (cents .0)) ⌝ }
+    ensures { λ r. ⌜ Wrote (now (out .entry)) (now (out .exit)) at r (totalsBytes number (count .0) (cents .0)) ⌝ }
     ensures { λ r. ⌜ r ≤ at + 300 ⌝ }
 {
     let id = put_id(out, at, number);
@@ -61,32 +60,16 @@ pub fn put_totals(
     )
 }
 
-// CORE or B2B, and nothing for another number.
-fn put_scheme(out: &mut [u8], at: usize, scheme: u8) -> usize
+// Word n of words that stand one behind the other, each of four bytes but the last, which may have fewer; nothing where there are not so many.
+fn put_word(out: &mut [u8], at: usize, words: &[u8], n: u8) -> usize
     requires { ⌜ at + 4 < 2 ^ 32 ⌝ }
-    ensures { λ r. ⌜ Wrote (now (out .entry)) (now (out .exit)) at r (schemeWord scheme) ⌝ }
+    ensures { λ r. ⌜ Wrote (now (out .entry)) (now (out .exit)) at r (wordAt (now (words .entry)) n) ⌝ }
     ensures { λ r. ⌜ r ≤ at + 4 ⌝ }
 {
-    match scheme {
-        0 => put::put(out, at, b"CORE"),
-        1 => put::put(out, at, b"B2B"),
-        _ => at,
-    }
-}
-
-// FRST, RCUR, OOFF or FNAL, and nothing for another number.
-fn put_sequence(out: &mut [u8], at: usize, sequence: u8) -> usize
-    requires { ⌜ at + 4 < 2 ^ 32 ⌝ }
-    ensures { λ r. ⌜ Wrote (now (out .entry)) (now (out .exit)) at r (sequenceWord sequence) ⌝ }
-    ensures { λ r. ⌜ r ≤ at + 4 ⌝ }
-{
-    match sequence {
-        0 => put::put(out, at, b"FRST"),
-        1 => put::put(out, at, b"RCUR"),
-        2 => put::put(out, at, b"OOFF"),
-        3 => put::put(out, at, b"FNAL"),
-        _ => at,
-    }
+    let first = n as usize * 4;
+    let start = frames::least(first, words.len());
+    let end = frames::least(first + 4, words.len());
+    put::put(out, at, &words[start..end])
 }
 
 // The terms of a collection, from its line.
@@ -96,9 +79,14 @@ pub fn put_terms(out: &mut [u8], at: usize, line: &[u8]) -> usize
     ensures { λ r. ⌜ Wrote (now (out .entry)) (now (out .exit)) at r (termsBytes (collectionOf (unhex (now (line .entry))) .terms)) ⌝ }
     ensures { λ r. ⌜ r ≤ at + 400 ⌝ }
 {
-    let scheme = put_scheme(out, at, frames::hex::byte_at(line, 1));
+    let scheme = put_word(out, at, b"COREB2B", frames::hex::byte_at(line, 1));
     let code = put::put(out, scheme, b"</Cd></LclInstrm><SeqTp>");
-    let sequence = put_sequence(out, code, frames::hex::byte_at(line, 2));
+    let sequence = put_word(
+        out,
+        code,
+        b"FRSTRCUROOFFFNAL",
+        frames::hex::byte_at(line, 2),
+    );
     let date = texts::put_behind(
         out,
         sequence,
@@ -142,7 +130,7 @@ pub fn put_creditor(out: &mut [u8], at: usize, line: &[u8]) -> usize
 fn put_ids(out: &mut [u8], at: usize, line: &[u8]) -> usize
     requires { ⌜ framed creditor (unhex (now line)) ≡ true ⌝ }
     requires { ⌜ at + 800 < 2 ^ 32 ⌝ }
-    ensures { λ r. ⌜ Wrote (now (out .entry)) (now (out .exit)) at r (openingIds (creditorOf (unhex (now (line .entry))))) ⌝ }
+    ensures { λ r. ⌜ Wrote (now (out .entry)) (now (out .exit)) at r (idsBytes (creditorOf (unhex (now (line .entry))))) ⌝ }
     ensures { λ r. ⌜ r ≤ at + 800 ⌝ }
 {
     let declared = put::put(out, at, b"<?xml version=\"1.0\" encoding=\"UTF-8\"?>");

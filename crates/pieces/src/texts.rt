@@ -11,7 +11,7 @@ ghost use Rattle.written.specs.Pieces.{bankBytes};
 ghost use Rattle.pieces.specs.Texts.{Has, textAt};
 
 // A text that stands at a part of the line.
-fn put_part(
+pub fn put_part(
     out: &mut [u8],
     at: usize,
     line: &[u8],
@@ -39,26 +39,6 @@ pub fn put_text(out: &mut [u8], at: usize, line: &[u8], number: usize, i: usize)
 {
     let part = frames::text_part(line, frames::frame_of(number), i);
     put_part(out, at, line, number, i, part)
-}
-
-// Bytes, and behind them a text that stands at a part of the line.
-pub fn put_part_behind(
-    out: &mut [u8],
-    at: usize,
-    lead: &[u8],
-    line: &[u8],
-    number: usize,
-    i: usize,
-    part: frames::Part,
-) -> usize
-    requires { ⌜ Has number i (unhex (now line)) ⌝ }
-    requires { ⌜ part ≡ partOf (frameOf number) i (unhex (now line)) ⌝ }
-    requires { ⌜ at + length (now lead) + 255 < 2 ^ 32 ⌝ }
-    ensures { λ r. ⌜ Wrote (now (out .entry)) (now (out .exit)) at r (now (lead .entry) ++ textAt number i (unhex (now (line .entry)))) ⌝ }
-    ensures { λ r. ⌜ r ≤ at + length (now (lead .entry)) + 255 ⌝ }
-{
-    let next = put::put(out, at, lead);
-    put_part(out, next, line, number, i, part)
 }
 
 // Bytes, and a text behind them.
@@ -94,6 +74,7 @@ pub fn put_bank(out: &mut [u8], at: usize, line: &[u8], number: usize, i: usize)
             b"<FinInstnId><Othr><Id>NOTPROVIDED</Id></Othr></FinInstnId>",
         );
     }
-    let next = put_part_behind(out, at, b"<FinInstnId><BICFI>", line, number, i, part);
+    let lead = put::put(out, at, b"<FinInstnId><BICFI>");
+    let next = put_part(out, lead, line, number, i, part);
     put::put(out, next, b"</BICFI></FinInstnId>")
 }

@@ -21,7 +21,8 @@ fn put_remittance(out: &mut [u8], at: usize, line: &[u8]) -> usize
     if part.length == 0 {
         return at;
     }
-    let next = texts::put_part_behind(out, at, b"<RmtInf><Ustrd>", line, 2, 7, part);
+    let lead = put::put(out, at, b"<RmtInf><Ustrd>");
+    let next = texts::put_part(out, lead, line, 2, 7, part);
     put::put(out, next, b"</Ustrd></RmtInf>")
 }
 

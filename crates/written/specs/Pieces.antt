@@ -1,7 +1,9 @@
 -- THE BYTES OF THE MESSAGE, PIECE BY PIECE, as the code writes them. Not to be believed: the message is that of Written, and `pieces-written` says that these are its bytes.
 --   bankBytes, remittanceBytes, transactionBytes   of a transaction
+--   sumsBytes n sum                                a number of transactions, and their sum
+--   idBytes, totalsBytes, termsBytes, creditorBytes   of a batch before its first transaction, one behind the other
 --   headBytes cr n xs, batchBytes cr n xs          of batch n with the collections xs: before its first transaction; the whole
---   openingBytes cr n sum                          before the first batch, for n collections of `sum` cents
+--   idsBytes cr, openingBytes cr n sum             of a message up to its creation time; up to its first batch, for n collections of `sum` cents
 --   messageBytes cr bs                             the whole
 use Prim.Native.Nat.{ℕ, suc}
 use mathlib.Core.List.{List, [], _∷_, _++_}
@@ -41,13 +43,19 @@ debtorBytes x =
 unfoldable pub transactionBytes : Collection → Bytes
 transactionBytes x = paymentBytes x ++ debtorBytes x
 
--- a batch up to its terms, its terms, its creditor
-abbrev pub totalsBytes : ℕ → List Collection → Bytes
-totalsBytes n xs =
-    ascii "<PmtInf><PmtInfId>" ++ (batchId n
-    ++ (ascii "</PmtInfId><PmtMtd>DD</PmtMtd><BtchBookg>true</BtchBookg><NbOfTxs>" ++ (decimal (length xs)
-    ++ (ascii "</NbOfTxs><CtrlSum>" ++ (euros (total (λ x. x .cents) xs)
-    ++ ascii "</CtrlSum><PmtTpInf><SvcLvl><Cd>SEPA</Cd></SvcLvl><LclInstrm><Cd>")))))
+-- a number of transactions, and their sum
+abbrev pub sumsBytes : ℕ → ℕ → Bytes
+sumsBytes n sum = decimal n ++ (ascii "</NbOfTxs><CtrlSum>" ++ euros sum)
+
+-- a batch up to its id, up to its terms, its terms, its creditor
+abbrev pub idBytes : ℕ → Bytes
+idBytes n = ascii "<PmtInf><PmtInfId>" ++ batchId n
+
+abbrev pub totalsBytes : ℕ → ℕ → ℕ → Bytes
+totalsBytes n count sum =
+    idBytes n
+    ++ (ascii "</PmtInfId><PmtMtd>DD</PmtMtd><BtchBookg>true</BtchBookg><NbOfTxs>" ++ (sumsBytes count sum
+    ++ ascii "</CtrlSum><PmtTpInf><SvcLvl><Cd>SEPA</Cd></SvcLvl><LclInstrm><Cd>"))
 
 abbrev pub termsBytes : Terms → Bytes
 termsBytes k =
@@ -63,7 +71,7 @@ creditorBytes cr =
     ++ ascii "</Id><SchmeNm><Prtry>SEPA</Prtry></SchmeNm></Othr></PrvtId></Id></CdtrSchmeId>"))))))
 
 unfoldable pub headBytes : Creditor → ℕ → List Collection → Bytes
-headBytes cr n xs = totalsBytes n xs ++ (termsBytes (termsOf xs) ++ creditorBytes cr)
+headBytes cr n xs = totalsBytes n (length xs) (total (λ x. x .cents) xs) ++ (termsBytes (termsOf xs) ++ creditorBytes cr)
 
 unfoldable pub batchBytes : Creditor → ℕ → List Collection → Bytes
 batchBytes cr n xs = headBytes cr n xs ++ (gather transactionBytes xs ++ ascii "</PmtInf>")
@@ -73,14 +81,18 @@ abbrev pub batchesBytes : Creditor → ℕ → List (List Collection) → Bytes
 batchesBytes cr n [] = []
 batchesBytes cr n (b ∷ bs) = batchBytes cr n b ++ batchesBytes cr (suc n) bs
 
+-- a message up to its creation time
+abbrev pub idsBytes : Creditor → Bytes
+idsBytes cr =
+    declaration ++ (ascii "<Document xmlns=\"urn:iso:std:iso:20022:tech:xsd:pain.008.001.08\"><CstmrDrctDbtInitn><GrpHdr><MsgId>" ++ (cr .messageId
+    ++ (ascii "</MsgId><CreDtTm>" ++ cr .creationTime)))
+
 unfoldable pub openingBytes : Creditor → ℕ → ℕ → Bytes
 openingBytes cr n sum =
-    declaration ++ (ascii "<Document xmlns=\"urn:iso:std:iso:20022:tech:xsd:pain.008.001.08\"><CstmrDrctDbtInitn><GrpHdr><MsgId>" ++ (cr .messageId
-    ++ (ascii "</MsgId><CreDtTm>" ++ (cr .creationTime
-    ++ (ascii "</CreDtTm><NbOfTxs>" ++ (decimal n
-    ++ (ascii "</NbOfTxs><CtrlSum>" ++ (euros sum
+    idsBytes cr
+    ++ (ascii "</CreDtTm><NbOfTxs>" ++ (sumsBytes n sum
     ++ (ascii "</CtrlSum><InitgPty><Nm>" ++ (cr .initiatingName
-    ++ ascii "</Nm></InitgPty></GrpHdr>"))))))))))
+    ++ ascii "</Nm></InitgPty></GrpHdr>"))))
 
 unfoldable pub messageBytes : Creditor → List (List Collection) → Bytes
 messageBytes cr bs =

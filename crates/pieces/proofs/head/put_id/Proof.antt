@@ -5,9 +5,6 @@ use borrow.Author.Needs.{needs}
 use Rattle.pieces.proofs.head.put_id.Statement.{statement}
 use Rattle.pieces.proofs.head.put_id.Tie as tie
 
-slice-aggregate-put : tie.Need-slice-aggregate-put
-slice-aggregate-put c = refl
-
 put-requires : tie.Need-put-requires
 put-requires c κs = search needs
 
@@ -22,4 +19,4 @@ same-length c = returns c .same
 
 pub put-id-spec : {M : Type 1} → statement M
 put-id-spec =
-    tie.close (tie.spec slice-aggregate-put put-requires put-batch-id-requires same-length returns)
+    tie.close (tie.spec (λ c. refl) put-requires put-batch-id-requires same-length returns)

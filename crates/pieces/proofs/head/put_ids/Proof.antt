@@ -6,20 +6,11 @@ use borrow.Author.Needs.{needs}
 use Rattle.pieces.proofs.head.put_ids.Statement.{statement}
 use Rattle.pieces.proofs.head.put_ids.Tie as tie
 
-slice-aggregate-put : tie.Need-slice-aggregate-put
-slice-aggregate-put c = refl
-
 put-requires : tie.Need-put-requires
 put-requires c κs = search needs
 
-slice-aggregate-put-behind : tie.Need-slice-aggregate-put-behind
-slice-aggregate-put-behind c = refl
-
 put-behind-requires : tie.Need-put-behind-requires
 put-behind-requires c κs = (record { is = c .before .before .before .before .before .before .before .before .before .pre .0; there = omega arith }, omega (arith, c .before .before .before .before .put .ensures .end, c .before .before .before .before .before .before .before .before .before .pre .1))
-
-slice-aggregate-put-behind-2 : tie.Need-slice-aggregate-put-behind-2
-slice-aggregate-put-behind-2 c = refl
 
 put-behind-requires-2 : tie.Need-put-behind-requires-2
 put-behind-requires-2 c κs = (record { is = c .before .before .before .before .before .before .before .before .before .before .before .before .before .before .pre .0; there = omega arith }, omega (arith, c .before .before .before .before .put-behind .ensures .1, c .before .before .before .before .before .before .before .before .before .put .ensures .end, c .before .before .before .before .before .before .before .before .before .before .before .before .before .before .pre .1))
@@ -34,11 +25,11 @@ pub put-ids-spec : {M : Type 1} → statement M
 put-ids-spec =
     tie.close
     (tie.spec
-    slice-aggregate-put
+    (λ c. refl)
     put-requires
-    slice-aggregate-put-behind
+    (λ c. refl)
     put-behind-requires
-    slice-aggregate-put-behind-2
+    (λ c. refl)
     put-behind-requires-2
     same-length
     returns)

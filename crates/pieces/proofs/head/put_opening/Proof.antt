@@ -1,7 +1,7 @@
 -- `pieces::head::put_opening` meets its contract.
 use Rattle.put.proofs.Writes.{wrote-then}
 use native.Mathlib.Omega.{arith}
-use Rattle.pieces.proofs.Choices.{opening-join}
+use Rattle.written.specs.Pieces.{openingBytes}
 use mathlib.Core.Path.{refl}
 use Rattle.pieces.proofs.head.put_opening.Statement.{statement}
 use Rattle.pieces.proofs.head.put_opening.Tie as tie
@@ -9,30 +9,22 @@ use Rattle.pieces.proofs.head.put_opening.Tie as tie
 put-ids-requires : tie.Need-put-ids-requires
 put-ids-requires c κs = (c .before .before .before .pre .0, omega (arith, c .before .before .before .pre .1))
 
-slice-aggregate-put : tie.Need-slice-aggregate-put
-slice-aggregate-put c = refl
-
 put-requires : tie.Need-put-requires
 put-requires c κs = omega (arith, c .before .before .before .before .put-ids .ensures .1, c .before .before .before .before .before .before .before .before .pre .1)
 
 put-sums-requires : tie.Need-put-sums-requires
 put-sums-requires c κs = omega (arith, c .before .before .before .put .ensures .end, c .before .before .before .before .before .before .before .before .put-ids .ensures .1, c .before .before .before .before .before .before .before .before .before .before .before .before .pre .1)
 
-slice-aggregate-put-behind : tie.Need-slice-aggregate-put-behind
-slice-aggregate-put-behind c = refl
-
 put-behind-requires : tie.Need-put-behind-requires
 put-behind-requires c κs = (record { is = c .before .before .before .before .before .before .before .before .before .before .before .before .before .before .before .before .before .pre .0; there = omega arith }, omega (arith, c .before .before .before .before .put-sums .ensures .1, c .before .before .before .before .before .before .before .before .put .ensures .end, c .before .before .before .before .before .before .before .before .before .before .before .before .before .put-ids .ensures .1, c .before .before .before .before .before .before .before .before .before .before .before .before .before .before .before .before .before .pre .1))
-
-slice-aggregate-put-2 : tie.Need-slice-aggregate-put-2
-slice-aggregate-put-2 c = refl
 
 put-requires-2 : tie.Need-put-requires-2
 put-requires-2 c κs = omega (arith, c .before .before .before .before .put-behind .ensures .1, c .before .before .before .before .before .before .before .before .before .put-sums .ensures .1, c .before .before .before .before .before .before .before .before .before .before .before .before .before .put .ensures .end, c .before .before .before .before .before .before .before .before .before .before .before .before .before .before .before .before .before .before .put-ids .ensures .1, c .before .before .before .before .before .before .before .before .before .before .before .before .before .before .before .before .before .before .before .before .before .before .pre .1)
 
 returns : tie.Need-returns
+unfolding openingBytes
 returns c = (
-  opening-join _ _ _ (wrote-then _ _ (c .before .before .before .before .before .before .before .before .before .before .before .before .before .before .before .before .before .before .before .before .before .put-ids .ensures .0) (wrote-then _ _ (c .before .before .before .before .before .before .before .before .before .before .before .before .before .before .before .before .put .ensures) (wrote-then _ _ (c .before .before .before .before .before .before .before .before .before .before .before .before .put-sums .ensures .0) (wrote-then _ _ (c .before .before .before .before .before .before .before .put-behind .ensures .0) (c .before .before .put2 .ensures))))),
+  wrote-then _ _ (c .before .before .before .before .before .before .before .before .before .before .before .before .before .before .before .before .before .before .before .before .before .put-ids .ensures .0) (wrote-then _ _ (c .before .before .before .before .before .before .before .before .before .before .before .before .before .before .before .before .put .ensures) (wrote-then _ _ (c .before .before .before .before .before .before .before .before .before .before .before .before .put-sums .ensures .0) (wrote-then _ _ (c .before .before .before .before .before .before .before .put-behind .ensures .0) (c .before .before .put2 .ensures)))),
   omega (arith, c .before .before .put2 .ensures .end, c .before .before .before .before .before .before .before .put-behind .ensures .1, c .before .before .before .before .before .before .before .before .before .before .before .before .put-sums .ensures .1, c .before .before .before .before .before .before .before .before .before .before .before .before .before .before .before .before .put .ensures .end, c .before .before .before .before .before .before .before .before .before .before .before .before .before .before .before .before .before .before .before .before .before .put-ids .ensures .1),
 )
 
@@ -44,12 +36,12 @@ put-opening-spec =
     tie.close
     (tie.spec
     put-ids-requires
-    slice-aggregate-put
+    (λ c. refl)
     put-requires
     put-sums-requires
-    slice-aggregate-put-behind
+    (λ c. refl)
     put-behind-requires
-    slice-aggregate-put-2
+    (λ c. refl)
     put-requires-2
     same-length
     returns)

@@ -9,9 +9,6 @@ use Rattle.pieces.proofs.head.put_sums.Tie as tie
 put-count-requires : tie.Need-put-count-requires
 put-count-requires c κs = search needs
 
-slice-aggregate-put : tie.Need-slice-aggregate-put
-slice-aggregate-put c = refl
-
 put-requires : tie.Need-put-requires
 put-requires c κs = omega (arith, length-decimal (c .before .before .before .before .before .before .before .args .count .0))
 
@@ -29,7 +26,7 @@ put-sums-spec =
     tie.close
     (tie.spec
     put-count-requires
-    slice-aggregate-put
+    (λ c. refl)
     put-requires
     put-euros-requires
     same-length

@@ -1,7 +1,6 @@
 -- `pieces::head::put_totals` meets its contract.
 use Rattle.put.proofs.Writes.{wrote-then}
 use native.Mathlib.Omega.{arith}
-use Rattle.pieces.proofs.Choices.{totals-join}
 use mathlib.Core.Path.{refl}
 use borrow.Author.Needs.{needs}
 use Rattle.pieces.proofs.head.put_totals.Statement.{statement}
@@ -10,23 +9,17 @@ use Rattle.pieces.proofs.head.put_totals.Tie as tie
 put-id-requires : tie.Need-put-id-requires
 put-id-requires c κs = search needs
 
-slice-aggregate-put : tie.Need-slice-aggregate-put
-slice-aggregate-put c = refl
-
 put-requires : tie.Need-put-requires
 put-requires c κs = search needs
 
 put-sums-requires : tie.Need-put-sums-requires
 put-sums-requires c κs = search needs
 
-slice-aggregate-put-2 : tie.Need-slice-aggregate-put-2
-slice-aggregate-put-2 c = refl
-
 put-requires-2 : tie.Need-put-requires-2
 put-requires-2 c κs = search needs
 
 returns : tie.Need-returns
-returns c = (totals-join _ _ _ (wrote-then _ _ (c .before .before .before .before .before .before .before .before .before .before .before .before .before .before .before .before .put-id .ensures) (wrote-then _ _ (c .before .before .before .before .before .before .before .before .before .before .before .put .ensures) (wrote-then _ _ (c .before .before .before .before .before .before .before .put-sums .ensures .0) (c .before .before .put2 .ensures)))), omega arith)
+returns c = (wrote-then _ _ (c .before .before .before .before .before .before .before .before .before .before .before .before .before .before .before .before .put-id .ensures) (wrote-then _ _ (c .before .before .before .before .before .before .before .before .before .before .before .put .ensures) (wrote-then _ _ (c .before .before .before .before .before .before .before .put-sums .ensures .0) (c .before .before .put2 .ensures))), omega arith)
 
 same-length : tie.Need-same-length
 same-length c = returns c .0 .same
@@ -36,10 +29,10 @@ put-totals-spec =
     tie.close
     (tie.spec
     put-id-requires
-    slice-aggregate-put
+    (λ c. refl)
     put-requires
     put-sums-requires
-    slice-aggregate-put-2
+    (λ c. refl)
     put-requires-2
     same-length
     returns)

@@ -16,9 +16,6 @@ frame-of-requires c κs = search needs
 text-part-requires : tie.Need-text-part-requires
 text-part-requires c κs = let x = c .before .before .before in text-has _ _ _ (c .frame-of .ensures) (x .pre .0)
 
-slice-aggregate-put : tie.Need-slice-aggregate-put
-slice-aggregate-put c = refl
-
 put-requires : tie.Need-put-requires
 put-requires c κs = search needs
 
@@ -30,24 +27,21 @@ returns c =
 same-length : tie.Need-same-length
 same-length c = returns c .0 .same
 
-slice-aggregate-put-part-behind : tie.Need-slice-aggregate-put-part-behind
-slice-aggregate-put-part-behind c = refl
-
-put-part-behind-requires : tie.Need-put-part-behind-requires
-put-part-behind-requires c κs =
-    let x = c .before .before .before .before .before .before .before .before in
-    (x .pre .0, (text-told (x .args .number) (x .args .i) (x .args .line .now) _ _ (c .before .before .before .before .before .frame-of .ensures) (c .before .before .before .before .text-part .ensures), search needs))
-
-slice-aggregate-put-2 : tie.Need-slice-aggregate-put-2
-slice-aggregate-put-2 c = refl
-
 put-requires-2 : tie.Need-put-requires-2
 put-requires-2 c κs = search needs
 
+put-part-requires : tie.Need-put-part-requires
+put-part-requires c κs =
+    let x = c .before .before .before .before .before .before .before .before .before .before .before .before in
+    (x .pre .0, (text-told (x .args .number) (x .args .i) (x .args .line .now) _ _ (c .before .before .before .before .before .before .before .before .before .frame-of .ensures) (c .before .before .before .before .before .before .before .before .text-part .ensures), omega (arith, c .before .before .before .put2 .ensures .end, x .pre .1)))
+
+put-requires-3 : tie.Need-put-requires-3
+put-requires-3 c κs = omega (arith, c .before .before .before .before .put-part .ensures .1, c .before .before .before .before .before .before .before .before .put2 .ensures .end, c .before .before .before .before .before .before .before .before .before .before .before .before .before .before .before .before .before .pre .1)
+
 returns-2 : tie.Need-returns-2
 returns-2 c =
-    let x = c .before .before .before .before .before .before .before .before .before .before .before .before .before .before .before .before in
-    (bank-some (textAt (x .args .number) (x .args .i) (unhex (x .args .line .now))) (text-some (x .args .number) (x .args .i) (x .args .line .now) _ _ (c .before .before .before .before .before .before .before .before .before .before .before .before .before .frame-of .ensures) (c .before .before .before .before .before .before .before .before .before .before .before .before .text-part .ensures) (c .before .before .before .before .before .before .before .before .before .before .if1 .left)) (wrote-then _ _ (c .before .before .before .before .before .before .before .put-part-behind .ensures .0) (c .before .before .put2 .ensures)), omega arith)
+    let x = c .before .before .before .before .before .before .before .before .before .before .before .before .before .before .before .before .before .before .before .before in
+    (bank-some (textAt (x .args .number) (x .args .i) (unhex (x .args .line .now))) (text-some (x .args .number) (x .args .i) (x .args .line .now) _ _ (c .before .before .before .before .before .before .before .before .before .before .before .before .before .before .before .before .before .frame-of .ensures) (c .before .before .before .before .before .before .before .before .before .before .before .before .before .before .before .before .text-part .ensures) (c .before .before .before .before .before .before .before .before .before .before .before .before .before .before .if1 .left)) (wrote-then _ _ (c .before .before .before .before .before .before .before .before .before .before .before .put2 .ensures) (wrote-then _ _ (c .before .before .before .before .before .before .before .put-part .ensures .0) (c .before .before .put3 .ensures))), omega (arith, c .before .before .put3 .ensures .end, c .before .before .before .before .before .before .before .put-part .ensures .1, c .before .before .before .before .before .before .before .before .before .before .before .put2 .ensures .end))
 
 same-length-2 : tie.Need-same-length-2
 same-length-2 c = returns-2 c .0 .same
@@ -58,13 +52,14 @@ put-bank-spec =
     (tie.spec
     frame-of-requires
     text-part-requires
-    slice-aggregate-put
+    (λ c. refl)
     put-requires
     same-length
     returns
-    slice-aggregate-put-part-behind
-    put-part-behind-requires
-    slice-aggregate-put-2
+    (λ c. refl)
     put-requires-2
+    put-part-requires
+    (λ c. refl)
+    put-requires-3
     same-length-2
     returns-2)

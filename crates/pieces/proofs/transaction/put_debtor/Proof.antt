@@ -8,29 +8,17 @@ use Rattle.pieces.proofs.transaction.put_debtor.Tie as tie
 put-bank-requires : tie.Need-put-bank-requires
 put-bank-requires c κs = (record { is = c .before .before .before .pre .0; there = omega arith }, omega (arith, c .before .before .before .pre .1))
 
-slice-aggregate-put-behind : tie.Need-slice-aggregate-put-behind
-slice-aggregate-put-behind c = refl
-
 put-behind-requires : tie.Need-put-behind-requires
 put-behind-requires c κs = (record { is = c .before .before .before .before .before .before .before .before .pre .0; there = omega arith }, omega (arith, c .before .before .before .before .put-bank .ensures .1, c .before .before .before .before .before .before .before .before .pre .1))
 
-slice-aggregate-put-behind-2 : tie.Need-slice-aggregate-put-behind-2
-slice-aggregate-put-behind-2 c = refl
-
 put-behind-requires-2 : tie.Need-put-behind-requires-2
 put-behind-requires-2 c κs = (record { is = c .before .before .before .before .before .before .before .before .before .before .before .before .before .pre .0; there = omega arith }, omega (arith, c .before .before .before .before .put-behind .ensures .1, c .before .before .before .before .before .before .before .before .before .put-bank .ensures .1, c .before .before .before .before .before .before .before .before .before .before .before .before .before .pre .1))
-
-slice-aggregate-put : tie.Need-slice-aggregate-put
-slice-aggregate-put c = refl
 
 put-requires : tie.Need-put-requires
 put-requires c κs = omega (arith, c .before .before .before .before .put-behind2 .ensures .1, c .before .before .before .before .before .before .before .before .before .put-behind .ensures .1, c .before .before .before .before .before .before .before .before .before .before .before .before .before .before .put-bank .ensures .1, c .before .before .before .before .before .before .before .before .before .before .before .before .before .before .before .before .before .before .pre .1)
 
 put-remittance-requires : tie.Need-put-remittance-requires
 put-remittance-requires c κs = (c .before .before .before .before .before .before .before .before .before .before .before .before .before .before .before .before .before .before .before .before .before .before .pre .0, omega (arith, c .before .before .before .put .ensures .end, c .before .before .before .before .before .before .before .before .put-behind2 .ensures .1, c .before .before .before .before .before .before .before .before .before .before .before .before .before .put-behind .ensures .1, c .before .before .before .before .before .before .before .before .before .before .before .before .before .before .before .before .before .before .put-bank .ensures .1, c .before .before .before .before .before .before .before .before .before .before .before .before .before .before .before .before .before .before .before .before .before .before .pre .1))
-
-slice-aggregate-put-2 : tie.Need-slice-aggregate-put-2
-slice-aggregate-put-2 c = refl
 
 put-requires-2 : tie.Need-put-requires-2
 put-requires-2 c κs = omega (arith, c .before .before .before .before .put-remittance .ensures .1, c .before .before .before .before .before .before .before .before .put .ensures .end, c .before .before .before .before .before .before .before .before .before .before .before .before .before .put-behind2 .ensures .1, c .before .before .before .before .before .before .before .before .before .before .before .before .before .before .before .before .before .before .put-behind .ensures .1, c .before .before .before .before .before .before .before .before .before .before .before .before .before .before .before .before .before .before .before .before .before .before .before .put-bank .ensures .1, c .before .before .before .before .before .before .before .before .before .before .before .before .before .before .before .before .before .before .before .before .before .before .before .before .before .before .before .pre .1)
@@ -49,14 +37,14 @@ put-debtor-spec =
     tie.close
     (tie.spec
     put-bank-requires
-    slice-aggregate-put-behind
+    (λ c. refl)
     put-behind-requires
-    slice-aggregate-put-behind-2
+    (λ c. refl)
     put-behind-requires-2
-    slice-aggregate-put
+    (λ c. refl)
     put-requires
     put-remittance-requires
-    slice-aggregate-put-2
+    (λ c. refl)
     put-requires-2
     same-length
     returns)

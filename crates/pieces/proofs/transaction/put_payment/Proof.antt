@@ -6,14 +6,8 @@ use borrow.Author.Needs.{needs}
 use Rattle.pieces.proofs.transaction.put_payment.Statement.{statement}
 use Rattle.pieces.proofs.transaction.put_payment.Tie as tie
 
-slice-aggregate-put-behind : tie.Need-slice-aggregate-put-behind
-slice-aggregate-put-behind c = refl
-
 put-behind-requires : tie.Need-put-behind-requires
 put-behind-requires c κs = (record { is = c .before .before .before .before .pre .0; there = omega arith }, omega (arith, c .before .before .before .before .pre .1))
-
-slice-aggregate-put : tie.Need-slice-aggregate-put
-slice-aggregate-put c = refl
 
 put-requires : tie.Need-put-requires
 put-requires c κs = omega (arith, c .before .before .before .before .put-behind .ensures .1, c .before .before .before .before .before .before .before .before .before .pre .1)
@@ -24,20 +18,11 @@ cents-of-requires c κs = search needs
 put-euros-requires : tie.Need-put-euros-requires
 put-euros-requires c κs = omega (arith, c .before .before .before .before .put .ensures .end, c .before .before .before .before .before .before .before .before .before .put-behind .ensures .1, c .before .before .before .before .before .before .before .before .before .before .before .before .before .before .pre .1)
 
-slice-aggregate-put-behind-2 : tie.Need-slice-aggregate-put-behind-2
-slice-aggregate-put-behind-2 c = refl
-
 put-behind-requires-2 : tie.Need-put-behind-requires-2
 put-behind-requires-2 c κs = (record { is = c .before .before .before .before .before .before .before .before .before .before .before .before .before .before .before .before .before .before .before .pre .0; there = omega arith }, omega (arith, length-euros (c .before .before .before .before .before .cents-of .result .0), c .before .before .before .before .put-euros .ensures .end, c .before .before .before .before .before .before .before .before .before .put .ensures .end, c .before .before .before .before .before .before .before .before .before .before .before .before .before .before .put-behind .ensures .1))
 
-slice-aggregate-put-behind-3 : tie.Need-slice-aggregate-put-behind-3
-slice-aggregate-put-behind-3 c = refl
-
 put-behind-requires-3 : tie.Need-put-behind-requires-3
 put-behind-requires-3 c κs = (record { is = c .before .before .before .before .before .before .before .before .before .before .before .before .before .before .before .before .before .before .before .before .before .before .before .before .pre .0; there = omega arith }, omega (arith, length-euros (c .before .before .before .before .before .before .before .before .before .before .cents-of .result .0), c .before .before .before .before .put-behind2 .ensures .1, c .before .before .before .before .before .before .before .before .before .put-euros .ensures .end, c .before .before .before .before .before .before .before .before .before .before .before .before .before .before .put .ensures .end, c .before .before .before .before .before .before .before .before .before .before .before .before .before .before .before .before .before .before .before .put-behind .ensures .1, c .before .before .before .before .before .before .before .before .before .before .before .before .before .before .before .before .before .before .before .before .before .before .before .before .pre .1))
-
-slice-aggregate-put-2 : tie.Need-slice-aggregate-put-2
-slice-aggregate-put-2 c = refl
 
 put-requires-2 : tie.Need-put-requires-2
 put-requires-2 c κs = omega (arith, length-euros (c .before .before .before .before .before .before .before .before .before .before .before .before .before .before .before .cents-of .result .0), c .before .before .before .before .put-behind3 .ensures .1, c .before .before .before .before .before .before .before .before .before .put-behind2 .ensures .1, c .before .before .before .before .before .before .before .before .before .before .before .before .before .before .put-euros .ensures .end, c .before .before .before .before .before .before .before .before .before .before .before .before .before .before .before .before .before .before .before .put .ensures .end, c .before .before .before .before .before .before .before .before .before .before .before .before .before .before .before .before .before .before .before .before .before .before .before .before .put-behind .ensures .1, c .before .before .before .before .before .before .before .before .before .before .before .before .before .before .before .before .before .before .before .before .before .before .before .before .before .before .before .before .before .pre .1)
@@ -55,17 +40,17 @@ pub put-payment-spec : {M : Type 1} → statement M
 put-payment-spec =
     tie.close
     (tie.spec
-    slice-aggregate-put-behind
+    (λ c. refl)
     put-behind-requires
-    slice-aggregate-put
+    (λ c. refl)
     put-requires
     cents-of-requires
     put-euros-requires
-    slice-aggregate-put-behind-2
+    (λ c. refl)
     put-behind-requires-2
-    slice-aggregate-put-behind-3
+    (λ c. refl)
     put-behind-requires-3
-    slice-aggregate-put-2
+    (λ c. refl)
     put-requires-2
     same-length
     returns)

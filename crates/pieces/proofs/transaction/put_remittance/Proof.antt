@@ -22,24 +22,21 @@ returns c =
     let x = c .before .before .before .before .before .before in
     (remittance-none (textAt 2 7 (unhex (x .args .line .now))) (text-none 2 7 (x .args .line .now) _ _ (c .before .before .before .frame-of .ensures) (c .before .before .text-part .ensures) (c .if1 .taken)) (wrote-nil _ _), omega arith)
 
-slice-aggregate-put-part-behind : tie.Need-slice-aggregate-put-part-behind
-slice-aggregate-put-part-behind c = refl
-
-put-part-behind-requires : tie.Need-put-part-behind-requires
-put-part-behind-requires c κs =
-    let x = c .before .before .before .before .before .before .before .before in
-    (record { is = x .pre .0; there = omega arith }, (text-told 2 7 (x .args .line .now) _ _ (c .before .before .before .before .before .frame-of .ensures) (c .before .before .before .before .text-part .ensures), search needs))
-
-slice-aggregate-put : tie.Need-slice-aggregate-put
-slice-aggregate-put c = refl
-
 put-requires : tie.Need-put-requires
 put-requires c κs = search needs
 
+put-part-requires : tie.Need-put-part-requires
+put-part-requires c κs =
+    let x = c .before .before .before .before .before .before .before .before .before .before .before .before in
+    (record { is = x .pre .0; there = omega arith }, (text-told 2 7 (x .args .line .now) _ _ (c .before .before .before .before .before .before .before .before .before .frame-of .ensures) (c .before .before .before .before .before .before .before .before .text-part .ensures), omega (arith, c .before .before .before .put .ensures .end, x .pre .1)))
+
+put-requires-2 : tie.Need-put-requires-2
+put-requires-2 c κs = omega (arith, c .before .before .before .before .put-part .ensures .1, c .before .before .before .before .before .before .before .before .put .ensures .end, c .before .before .before .before .before .before .before .before .before .before .before .before .before .before .before .before .before .pre .1)
+
 returns-2 : tie.Need-returns-2
 returns-2 c =
-    let x = c .before .before .before .before .before .before .before .before .before .before .before .before .before .before .before .before in
-    (remittance-some (textAt 2 7 (unhex (x .args .line .now))) (text-some 2 7 (x .args .line .now) _ _ (c .before .before .before .before .before .before .before .before .before .before .before .before .before .frame-of .ensures) (c .before .before .before .before .before .before .before .before .before .before .before .before .text-part .ensures) (c .before .before .before .before .before .before .before .before .before .before .if1 .left)) (wrote-then _ _ (c .before .before .before .before .before .before .before .put-part-behind .ensures .0) (c .before .before .put .ensures)), omega arith)
+    let x = c .before .before .before .before .before .before .before .before .before .before .before .before .before .before .before .before .before .before .before .before in
+    (remittance-some (textAt 2 7 (unhex (x .args .line .now))) (text-some 2 7 (x .args .line .now) _ _ (c .before .before .before .before .before .before .before .before .before .before .before .before .before .before .before .before .before .frame-of .ensures) (c .before .before .before .before .before .before .before .before .before .before .before .before .before .before .before .before .text-part .ensures) (c .before .before .before .before .before .before .before .before .before .before .before .before .before .before .if1 .left)) (wrote-then _ _ (c .before .before .before .before .before .before .before .before .before .before .before .put .ensures) (wrote-then _ _ (c .before .before .before .before .before .before .before .put-part .ensures .0) (c .before .before .put2 .ensures))), omega (arith, c .before .before .put2 .ensures .end, c .before .before .before .before .before .before .before .put-part .ensures .1, c .before .before .before .before .before .before .before .before .before .before .before .put .ensures .end))
 
 same-length : tie.Need-same-length
 same-length c = returns-2 c .0 .same
@@ -51,9 +48,10 @@ put-remittance-spec =
     frame-of-requires
     text-part-requires
     returns
-    slice-aggregate-put-part-behind
-    put-part-behind-requires
-    slice-aggregate-put
+    (λ c. refl)
     put-requires
+    put-part-requires
+    (λ c. refl)
+    put-requires-2
     same-length
     returns-2)
