@@ -1,9 +1,10 @@
 -- WHAT THE WRITERS OF A MESSAGE ASK of the list, its table of starts and its labels. Not to be believed: a list that is judged good, with its table and labels, has it all (`ready`).
---   collectionAt s a                 the collection that the line from a on holds
---   Ready s table labels             each collection of the list s is found by the table, and has a label
+--   collectionAt s a, creditorAt s   the collection that the line from a on holds; the creditor that the first line holds
+--   Ready s table labels             the list s has its creditor, and each collection is found by the table and has a label
 --   Batch .. k, Batches .. m         a collection has the label k; for each label below m one has it
 --   batchRoom                        no batch has more bytes
 --   batchesFrom k m labels xs        m batches from number k on: each the collections of xs that have its label
+--   messageBy s labels m             the bytes of the message of the list s whose m batches have these labels
 use Prim.Native.Nat.{ℕ, _+_, _*_, _≤_, _<_}
 use mathlib.Core.Bool.{true}
 use mathlib.Core.List.{List, map}
@@ -15,15 +16,20 @@ use Rattle.laws.specs.Lists.{count}
 use Rattle.profile.specs.Limits.{mostBatches, mostCollections, mostCents}
 use Rattle.frames.specs.Lines.{lineFrom}
 use Rattle.frames.specs.Hex.{unhex}
-use Rattle.frames.specs.Frames.{framed, collection}
+use Rattle.frames.specs.Frames.{framed, creditor as creditorFrame, collection}
 use Rattle.bundle.specs.Labels.{pick, upFrom}
-use Rattle.listed.specs.Listed.{Collection, collectionOf, listed}
+use Rattle.listed.specs.Listed.{Collection, Creditor, collectionOf, creditorOf, listed}
 use Rattle.written.specs.Written.{noCollection}
+use Rattle.written.specs.Pieces.{messageBytes}
 
 abbrev pub collectionAt : Bytes → ℕ → Collection
 collectionAt s a = collectionOf (unhex (lineFrom s a))
 
+abbrev pub creditorAt : Bytes → Creditor
+creditorAt s = creditorOf (unhex (lineFrom s 0))
+
 pub record Ready (s : Bytes) (table labels : List ℕ) : Type 0 where
+  pub creditor : framed creditorFrame (unhex (lineFrom s 0)) ≡ true
   pub few : length labels ≤ mostCollections
   pub size : length table ≡ length labels + 1
   pub count : length (listed s) ≡ length labels
@@ -48,3 +54,6 @@ batchRoom = 2_300 * mostCollections + 3_000
 
 abbrev pub batchesFrom : {X : Type 0} → ℕ → ℕ → List ℕ → List X → List (List X)
 batchesFrom k m labels xs = map (λ j. pick j labels xs) (upFrom k m)
+
+abbrev pub messageBy : Bytes → List ℕ → ℕ → Bytes
+messageBy s labels m = messageBytes (creditorAt s) (batchesFrom 0 m labels (listed s))

@@ -4,30 +4,22 @@ ghost use mathlib.Core.Bool.{true, not};
 ghost use mathlib.Core.List.{[]};
 ghost use Prim.Native.Nat.{_+_, _*_, _≤_, _<_, _^_};
 ghost use lib.Dec.{eqb};
-ghost use lib.ListN.{length, drop};
+ghost use lib.ListN.{length};
 ghost use Rattle.laws.specs.Bytes.{span};
 ghost use Rattle.laws.specs.Lists.{putIf, total, count, gather};
 ghost use Rattle.frames.specs.Hex.{unhex};
-ghost use Rattle.frames.specs.Lines.{notEnd, lineFrom};
+ghost use Rattle.frames.specs.Lines.{lineFrom};
 ghost use Rattle.frames.specs.Frames.{framed, creditor, collection};
 ghost use Rattle.profile.specs.Limits.{mostCents};
 ghost use Rattle.bundle.specs.Labels.{pick};
 ghost use Rattle.put.specs.Wrote.{Wrote};
-ghost use Rattle.listed.specs.Listed.{listed, creditorOf};
-ghost use Rattle.written.specs.Pieces.{transactionBytes, termsBytes, headBytes, batchBytes};
-ghost use Rattle.batched.specs.Ready.{collectionAt, Ready, Batch, batchRoom};
+ghost use Rattle.listed.specs.Listed.{listed};
+ghost use Rattle.written.specs.Pieces.{transactionBytes, termsBytes, creditorBytes, batchBytes};
+ghost use Rattle.batched.specs.Ready.{collectionAt, creditorAt, Ready, Batch, batchRoom};
 use profile::ControlSum;
 use profile::NumberOfTransactions;
 
 // ─── a line ───
-
-// Where the line ends that starts at a place.
-fn line_end(list: &[u8], start: usize) -> usize
-    requires { ⌜ start ≤ length (now list) ⌝ }
-    ensures { λ r. ⌜ (r ≡ start + span notEnd (drop start (now (list .entry)))) × (r ≤ length (now (list .entry))) ⌝ }
-{
-    start + frames::lines::line_length(&list[start..])
-}
 
 // The cents of the line that starts at a place, where it is one of the batch, else 0. They stand in its first eight bytes, in 16 digits.
 fn own_cents(list: &[u8], start: usize, own: bool) -> ControlSum
@@ -50,7 +42,7 @@ fn put_own(out: &mut [u8], at: usize, list: &[u8], start: usize, own: bool) -> u
     ensures { λ r. ⌜ r ≤ at + 2300 ⌝ }
 {
     if own {
-        let end = line_end(list, start);
+        let end = daylist::lines::line_end(list, start);
         return pieces::transaction::put_transaction(out, at, &list[start..end]);
     }
     at
@@ -64,8 +56,19 @@ fn put_terms_at(out: &mut [u8], at: usize, list: &[u8], start: usize) -> usize
     ensures { λ r. ⌜ Wrote (now (out .entry)) (now (out .exit)) at r (termsBytes (collectionAt (now (list .entry)) start .terms)) ⌝ }
     ensures { λ r. ⌜ r ≤ at + 400 ⌝ }
 {
-    let end = line_end(list, start);
+    let end = daylist::lines::line_end(list, start);
     pieces::head::put_terms(out, at, &list[start..end])
+}
+
+// The creditor, from the first line.
+fn put_creditor_at(out: &mut [u8], at: usize, list: &[u8]) -> usize
+    requires { ⌜ framed creditor (unhex (lineFrom (now list) 0)) ≡ true ⌝ }
+    requires { ⌜ at + 1300 < 2 ^ 32 ⌝ }
+    ensures { λ r. ⌜ Wrote (now (out .entry)) (now (out .exit)) at r (creditorBytes (creditorAt (now (list .entry)))) ⌝ }
+    ensures { λ r. ⌜ r ≤ at + 1300 ⌝ }
+{
+    let end = daylist::lines::line_end(list, 0);
+    pieces::head::put_creditor(out, at, &list[0..end])
 }
 
 // ─── the collections of a batch ───
@@ -139,47 +142,26 @@ fn put_transactions(
 
 // ─── a batch ───
 
-// The batch before its first transaction.
-fn put_head(
+// The batch.
+pub fn put_batch(
     out: &mut [u8],
     at: usize,
-    line: &[u8],
     list: &[u8],
     table: &[usize],
     labels: &[u64],
     batch: u64,
 ) -> usize
-    requires { ⌜ framed creditor (unhex (now line)) ≡ true ⌝ }
     requires { ⌜ Batch (now list) (now table) (now labels) batch ⌝ }
-    requires { ⌜ at + 2000 < 2 ^ 32 ⌝ }
-    ensures { λ r. ⌜ Wrote (now (out .entry)) (now (out .exit)) at r (headBytes (creditorOf (unhex (now (line .entry)))) (batch + 1) (pick batch (now (labels .entry)) (listed (now (list .entry))))) ⌝ }
-    ensures { λ r. ⌜ r ≤ at + 2000 ⌝ }
+    requires { ⌜ at + batchRoom < 2 ^ 32 ⌝ }
+    ensures { λ r. ⌜ Wrote (now (out .entry)) (now (out .exit)) at r (batchBytes (creditorAt (now (list .entry))) (batch + 1) (pick batch (now (labels .entry)) (listed (now (list .entry))))) ⌝ }
+    ensures { λ r. ⌜ r ≤ at + batchRoom ⌝ }
 {
     let count = count_of(labels, batch);
     let cents = cents_of(list, table, labels, batch);
     let first = first_of(labels, batch);
     let totals = pieces::head::put_totals(out, at, batch + 1, count, cents);
     let terms = put_terms_at(out, totals, list, table[first + 1]);
-    pieces::head::put_creditor(out, terms, line)
-}
-
-// The batch.
-pub fn put_batch(
-    out: &mut [u8],
-    at: usize,
-    line: &[u8],
-    list: &[u8],
-    table: &[usize],
-    labels: &[u64],
-    batch: u64,
-) -> usize
-    requires { ⌜ framed creditor (unhex (now line)) ≡ true ⌝ }
-    requires { ⌜ Batch (now list) (now table) (now labels) batch ⌝ }
-    requires { ⌜ at + batchRoom < 2 ^ 32 ⌝ }
-    ensures { λ r. ⌜ Wrote (now (out .entry)) (now (out .exit)) at r (batchBytes (creditorOf (unhex (now (line .entry)))) (batch + 1) (pick batch (now (labels .entry)) (listed (now (list .entry))))) ⌝ }
-    ensures { λ r. ⌜ r ≤ at + batchRoom ⌝ }
-{
-    let head = put_head(out, at, line, list, table, labels, batch);
+    let head = put_creditor_at(out, terms, list);
     let transactions = put_transactions(out, head, list, table, labels, batch);
     put::put(out, transactions, b"</PmtInf>")
 }

@@ -9,23 +9,21 @@ use mathlib.Core.Path.{_≡_, ap}
 use lib.ListN.{length}
 use Rattle.laws.specs.Bytes.{Bytes}
 use Rattle.profile.specs.Limits.{mostBytes, mostBatches}
-use Rattle.frames.specs.Lines.{starts, lineFrom}
-use Rattle.frames.specs.Hex.{unhex}
+use Rattle.frames.specs.Lines.{starts}
 use Rattle.frames.proofs.Starts.{starts-number}
 use Rattle.daylist.specs.declared.JudgedList.the-variants.{Good}
 use Rattle.daylist.specs.Stages.{judgedList}
 use Rattle.daylist.proofs.Goods.{GoodList, good-list}
 use Rattle.bundle.specs.Labels.{needOf, labelsOf}
-use Rattle.listed.specs.Listed.{creditorOf, listed}
+use Rattle.listed.specs.Listed.{listed}
 use Rattle.listed.specs.Numbers.{numbersOf}
 use Rattle.listed.proofs.Terms.{terms-decide}
 use Rattle.listed.proofs.Goods.{good-number, good-creditor, good-collections}
-use Rattle.listed.proofs.Found.{creditor-found, inside, collection-found, collection-framed, collection-good, label-some}
+use Rattle.listed.proofs.Found.{creditor-found, creditor-framed, inside, collection-found, collection-framed, collection-good, label-some}
 use Rattle.listed.proofs.Batches.{batches-by-label, need-by-number}
 use Rattle.written.specs.Written.{noCollection, batchesFor, written}
-use Rattle.written.specs.Pieces.{messageBytes}
 use Rattle.written.proofs.Bundled.{list-written, list-length}
-use Rattle.batched.specs.Ready.{Ready, Batches, batchesFrom}
+use Rattle.batched.specs.Ready.{Ready, Batches, batchesFrom, messageBy}
 
 module _ (s : Bytes) (c n : ℕ) (e : judgedList s c ≡ Good n) (t ls : List ℕ) (u : t ≡ starts s) (v : length ls ≡ n) where
   list : GoodList s c n
@@ -33,6 +31,7 @@ module _ (s : Bytes) (c n : ℕ) (e : judgedList s c ≡ Good n) (t ls : List �
 
   pub ready : Ready s t ls
   ready = record {
+    creditor = creditor-framed s c n e;
     few = omega (arith, list .few);
     size = omega (arith, ap length u, starts-number s, list .count);
     count = omega (arith, good-number s c n e);
@@ -49,13 +48,13 @@ module _ (s : Bytes) (c n : ℕ) (e : judgedList s c ≡ Good n) (t ls : List �
     by-label : batchesFor s c ≡ batchesFrom 0 m ls (listed s)
     by-label = rw (w, x) (batches-by-label s c n e)
 
-    pub written-is : messageBytes (creditorOf (unhex (lineFrom s 0))) (batchesFrom 0 m ls (listed s)) ≡ written s c
+    pub written-is : messageBy s ls m ≡ written s c
     written-is =
         rw (creditor-found s c n e, ← by-label)
         (list-written terms-decide s c (list .least) (good-creditor s c n e) (good-collections s c n e) (omega (arith, good-number s c n e, list .some)))
 
     -- it is not longer than a message may be
-    pub written-short : m ≤ mostBatches → length (messageBytes (creditorOf (unhex (lineFrom s 0))) (batchesFrom 0 m ls (listed s))) ≤ mostBytes
+    pub written-short : m ≤ mostBatches → length (messageBy s ls m) ≤ mostBytes
     written-short h =
         rw written-is
         (list-length terms-decide s c (list .least) (good-creditor s c n e) (good-collections s c n e) (omega (arith, good-number s c n e, list .some))

@@ -2,17 +2,12 @@
 //
 //   message   the message of a list whose collections have their labels
 ghost use mathlib.Core.Path.{_≡_};
-ghost use mathlib.Core.Bool.{true};
 ghost use Prim.Native.Nat.{_+_, _≤_};
 ghost use lib.ListN.{length};
 ghost use Rattle.profile.specs.Limits.{mostBytes};
-ghost use Rattle.frames.specs.Hex.{unhex};
-ghost use Rattle.frames.specs.Frames.{framed, creditor};
 ghost use Rattle.daylist.specs.Stages.{judgedList};
 ghost use Rattle.daylist.specs.declared.JudgedList.the-variants.{Good};
-ghost use Rattle.listed.specs.Listed.{listed, creditorOf};
-ghost use Rattle.written.specs.Pieces.{messageBytes};
-ghost use Rattle.batched.specs.Ready.{Batches, batchesFrom};
+ghost use Rattle.batched.specs.Ready.{Batches, messageBy};
 ghost use Rattle.write.specs.Write.{answered, fitted, after, answerFor, outputFor};
 use daylist::JudgedList;
 use profile::ListRefusal;
@@ -26,47 +21,27 @@ pub enum Written {
     Refused(profile::ListRefusal),
 }
 
-// The message of a list whose collections have their labels, `line` being the creditor's, measured first. Where there is no room for it nothing is written.
-fn write_measured(
-    line: &[u8],
-    list: &[u8],
-    table: &[usize],
-    labels: &[u64],
-    batches: u64,
-    out: &mut [u8],
-) -> Written
-    requires { ⌜ framed creditor (unhex (now line)) ≡ true ⌝ }
-    requires { ⌜ Batches (now list) (now table) (now labels) batches ⌝ }
-    ensures { λ r. ⌜ answered r ≡ fitted (messageBytes (creditorOf (unhex (now (line .entry)))) (batchesFrom 0 batches (now (labels .entry)) (listed (now (list .entry))))) (length (now (out .entry))) ⌝ }
-    ensures { λ r. ⌜ now (out .exit) ≡ after (answered r) (messageBytes (creditorOf (unhex (now (line .entry)))) (batchesFrom 0 batches (now (labels .entry)) (listed (now (list .entry))))) (now (out .entry)) ⌝ }
-{
-    let length = message::put_message(&mut out[..0], line, list, table, labels, batches);
-    if out.len() < length {
-        return Written::Refused(ListRefusal::OutputTooShort(length));
-    }
-    message::put_message(out, line, list, table, labels, batches);
-    Written::Length(length)
-}
-
-// The same. An output that has room for the longest message there is needs no measuring.
+// The message of a list whose collections have their labels. An output that has room for the longest message there is needs no measuring; where there is no
+// room for the message nothing is written.
 fn write_labelled(
-    line: &[u8],
     list: &[u8],
     table: &[usize],
     labels: &[u64],
     batches: u64,
     out: &mut [u8],
 ) -> Written
-    requires { ⌜ framed creditor (unhex (now line)) ≡ true ⌝ }
     requires { ⌜ Batches (now list) (now table) (now labels) batches ⌝ }
-    requires { ⌜ length (messageBytes (creditorOf (unhex (now line))) (batchesFrom 0 batches (now labels) (listed (now list)))) ≤ mostBytes ⌝ }
-    ensures { λ r. ⌜ answered r ≡ fitted (messageBytes (creditorOf (unhex (now (line .entry)))) (batchesFrom 0 batches (now (labels .entry)) (listed (now (list .entry))))) (length (now (out .entry))) ⌝ }
-    ensures { λ r. ⌜ now (out .exit) ≡ after (answered r) (messageBytes (creditorOf (unhex (now (line .entry)))) (batchesFrom 0 batches (now (labels .entry)) (listed (now (list .entry))))) (now (out .entry)) ⌝ }
+    requires { ⌜ length (messageBy (now list) (now labels) batches) ≤ mostBytes ⌝ }
+    ensures { λ r. ⌜ answered r ≡ fitted (messageBy (now (list .entry)) (now (labels .entry)) batches) (length (now (out .entry))) ⌝ }
+    ensures { λ r. ⌜ now (out .exit) ≡ after (answered r) (messageBy (now (list .entry)) (now (labels .entry)) batches) (now (out .entry)) ⌝ }
 {
-    if Profile::BYTES <= out.len() {
-        return Written::Length(message::put_message(out, line, list, table, labels, batches));
+    if out.len() < Profile::BYTES {
+        let length = message::put_message(&mut out[..0], list, table, labels, batches);
+        if out.len() < length {
+            return Written::Refused(ListRefusal::OutputTooShort(length));
+        }
     }
-    write_measured(line, list, table, labels, batches, out)
+    Written::Length(message::put_message(out, list, table, labels, batches))
 }
 
 // The message of a list that is judged good, with a place for the starts of its lines and for the labels of its collections.
@@ -86,8 +61,7 @@ fn write_in(
     if Profile::BATCHES < batches {
         return Written::Refused(ListRefusal::TooManyBatches(batches as usize));
     }
-    let end = frames::lines::line_length(list);
-    write_labelled(&list[..end], list, table, labels, batches, out)
+    write_labelled(list, table, labels, batches, out)
 }
 
 // The message of a list of so many collections that is judged good.

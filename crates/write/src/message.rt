@@ -1,18 +1,15 @@
 // The message of a list whose collections have their labels.
 ghost use mathlib.Core.Path.{_≡_};
-ghost use mathlib.Core.Bool.{true};
 ghost use Prim.Native.Nat.{_+_, _*_, _≤_, _<_, _^_};
 ghost use lib.Dec.{eqb};
 ghost use lib.ListN.{length};
 ghost use Rattle.profile.specs.Limits.{mostBatches, mostCollections};
 ghost use Rattle.bundle.specs.Labels.{pick, upTo};
 ghost use Rattle.laws.specs.Lists.{total, count};
-ghost use Rattle.frames.specs.Hex.{unhex};
-ghost use Rattle.frames.specs.Frames.{framed, creditor};
 ghost use Rattle.put.specs.Wrote.{Wrote};
-ghost use Rattle.listed.specs.Listed.{listed, creditorOf};
-ghost use Rattle.written.specs.Pieces.{batchesBytes, messageBytes};
-ghost use Rattle.batched.specs.Ready.{Ready, Batches, batchRoom, batchesFrom};
+ghost use Rattle.listed.specs.Listed.{listed};
+ghost use Rattle.written.specs.Pieces.{batchesBytes};
+ghost use Rattle.batched.specs.Ready.{creditorAt, Ready, Batches, batchRoom, batchesFrom, messageBy};
 use profile::ControlSum;
 use profile::NumberOfTransactions;
 
@@ -49,43 +46,40 @@ fn cents_all(list: &[u8], table: &[usize], labels: &[u64], batches: u64) -> Cont
 fn put_batches(
     out: &mut [u8],
     at: usize,
-    line: &[u8],
     list: &[u8],
     table: &[usize],
     labels: &[u64],
     batches: u64,
 ) -> usize
-    requires { ⌜ framed creditor (unhex (now line)) ≡ true ⌝ }
     requires { ⌜ Batches (now list) (now table) (now labels) batches ⌝ }
     requires { ⌜ at + batchRoom * mostBatches < 2 ^ 32 ⌝ }
-    ensures { λ r. ⌜ Wrote (now (out .entry)) (now (out .exit)) at r (batchesBytes (creditorOf (unhex (now (line .entry)))) 1 (batchesFrom 0 batches (now (labels .entry)) (listed (now (list .entry))))) ⌝ }
+    ensures { λ r. ⌜ Wrote (now (out .entry)) (now (out .exit)) at r (batchesBytes (creditorAt (now (list .entry))) 1 (batchesFrom 0 batches (now (labels .entry)) (listed (now (list .entry))))) ⌝ }
     ensures { λ r. ⌜ r ≤ at + batchRoom * mostBatches ⌝ }
 {
     let mut to = at;
     let mut k = 0;
     while k < batches {
-        to = batched::put_batch(out, to, line, list, table, labels, k);
+        to = batched::put_batch(out, to, list, table, labels, k);
         k += 1;
     }
     to
 }
 
-// The message, `line` being the creditor's.
+// The message.
 pub fn put_message(
     out: &mut [u8],
-    line: &[u8],
     list: &[u8],
     table: &[usize],
     labels: &[u64],
     batches: u64,
 ) -> usize
-    requires { ⌜ framed creditor (unhex (now line)) ≡ true ⌝ }
     requires { ⌜ Batches (now list) (now table) (now labels) batches ⌝ }
-    ensures { λ r. ⌜ Wrote (now (out .entry)) (now (out .exit)) 0 r (messageBytes (creditorOf (unhex (now (line .entry)))) (batchesFrom 0 batches (now (labels .entry)) (listed (now (list .entry))))) ⌝ }
+    ensures { λ r. ⌜ Wrote (now (out .entry)) (now (out .exit)) 0 r (messageBy (now (list .entry)) (now (labels .entry)) batches) ⌝ }
 {
     let count = count_all(labels, batches);
     let cents = cents_all(list, table, labels, batches);
-    let opening = pieces::head::put_opening(out, 0, line, count, cents);
-    let closing = put_batches(out, opening, line, list, table, labels, batches);
+    let end = daylist::lines::line_end(list, 0);
+    let opening = pieces::head::put_opening(out, 0, &list[0..end], count, cents);
+    let closing = put_batches(out, opening, list, table, labels, batches);
     put::put(out, closing, b"</CstmrDrctDbtInitn></Document>")
 }

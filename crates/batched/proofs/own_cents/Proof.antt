@@ -1,8 +1,5 @@
 -- `batched::own_cents` meets its contract. The lead of the line tells its cents.
-use Rattle.batched.proofs.Ends.{lead-there, lead-cents}
-use Rattle.frames.specs.Lines.{notEnd}
-use Rattle.laws.proofs.Loops.{span-le}
-use lib.ListN.{drop, length-drop}
+use Rattle.batched.proofs.Leads.{lead-within, lead-cents}
 use mathlib.Core.Path.{_≡_, _∙_}
 use Prim.Native.Nat.{ℕ, _+_}
 use native.Mathlib.Omega.{arith}
@@ -14,11 +11,7 @@ own-cents : (n m : ℕ) → n ≡ m → n ≡ m + 0
 own-cents n m e = omega arith
 
 add-cents-of : tie.Need-add-cents-of
-add-cents-of c =
-    let x = c .before .before in
-    let s = x .args .list .now in
-    let a = x .args .start in
-    omega (arith, lead-there s a (x .pre .1), span-le notEnd (drop a s), length-drop a s, x .pre .0)
+add-cents-of c = let x = c .before .before in omega (arith, lead-within (x .args .list .now) (x .args .start) (x .pre .1) (x .pre .0))
 
 sub-cents-of : tie.Need-sub-cents-of
 sub-cents-of c = search needs
@@ -27,11 +20,7 @@ part-cents-of-start : tie.Need-part-cents-of-start
 part-cents-of-start c = search needs
 
 part-cents-of-end : tie.Need-part-cents-of-end
-part-cents-of-end c =
-    let x = c .before .before in
-    let s = x .args .list .now in
-    let a = x .args .start in
-    omega (arith, lead-there s a (x .pre .1), span-le notEnd (drop a s), length-drop a s, x .pre .0)
+part-cents-of-end c = let x = c .before .before in lead-within (x .args .list .now) (x .args .start) (x .pre .1) (x .pre .0)
 
 cents-of-requires : tie.Need-cents-of-requires
 cents-of-requires c κs = search needs

@@ -1,5 +1,5 @@
 -- `batched::put_own` meets its contract.
-use Rattle.batched.proofs.Ends.{part-is}
+use Rattle.daylist.proofs.Ends.{part-is}
 use Rattle.put.proofs.Writes.{wrote-nil}
 use mathlib.Core.List.{append-nil}
 use native.Mathlib.Omega.{arith}

@@ -1,5 +1,5 @@
 -- `batched::put_terms_at` meets its contract.
-use Rattle.batched.proofs.Ends.{part-is}
+use Rattle.daylist.proofs.Ends.{part-is}
 use native.Mathlib.Omega.{arith}
 use borrow.Author.Needs.{needs}
 use Rattle.batched.proofs.put_terms_at.Statement.{statement}

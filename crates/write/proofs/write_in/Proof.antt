@@ -1,19 +1,10 @@
 -- `write::write_in` meets its contract. A good list, with its table and its labels, has all that its writers ask.
 use Rattle.write.proofs.Answers.{answered-many, answered-good}
 use Rattle.write.specs.Write.{answered}
-use Rattle.listed.proofs.Found.{creditor-framed}
 use Rattle.write.proofs.Readies.{batches-ready, written-is, written-short}
-use Rattle.batched.specs.Ready.{batchesFrom}
-use Rattle.listed.specs.Listed.{listed, creditorOf}
-use Rattle.written.specs.Pieces.{messageBytes}
 use Rattle.listed.proofs.Batches.{need-by-number}
-use Rattle.laws.proofs.Loops.{span-le}
-use Rattle.frames.specs.Lines.{notEnd}
-use Rattle.frames.specs.Hex.{unhex}
-use lib.ListN.{length, take}
-use lib.Seq.{length-take-le}
-use mathlib.Core.Path.{_≡_, ap, sym, _∙_}
-use Prim.Native.Nat.{ℕ}
+use lib.ListN.{length}
+use mathlib.Core.Path.{_≡_, _∙_}
 use native.Mathlib.Omega.{arith}
 use borrow.Author.Needs.{needs}
 use Rattle.write.proofs.write_in.Statement.{statement}
@@ -35,20 +26,13 @@ returns c =
     answered-many (x .args .list .now) (x .args .ceiling) (x .args .out .now) (length (x .args .labels .now)) (x .pre .0) (l .result)
     (l .ensures .0 ∙ need-by-number (c .before .before .before .before .before .before .before .before .before .before .before .before .args .list .now) (c .before .before .before .before .before .before .before .before .before .before .before .before .args .ceiling) (length (c .before .before .before .before .before .before .before .before .before .before .before .before .args .labels .now)) (c .before .before .before .before .before .before .before .before .before .before .before .before .pre .0)) (c .if1 .taken)
 
-line-length-requires : tie.Need-line-length-requires
-line-length-requires c κs = search needs
-
-slice-aggregate-write-labelled : tie.Need-slice-aggregate-write-labelled
-slice-aggregate-write-labelled c =
-    let s = c .before .before .before .before .before .before .before .before .before .before .before .before .before .before .args .list .now in
-    sym (length-take-le (c .before .line-length .result) s (omega (arith, c .before .line-length .ensures, span-le notEnd s)))
-
 write-labelled-requires : tie.Need-write-labelled-requires
 write-labelled-requires c κs =
-    let x = c .before .before .before .before .before .before .before .before .before .before .before .before .before .before .before .before .before in
-    let l = c .before .before .before .before .before .before .before .before .before .before .label in
-    let v : length (c .before .before .before .before .before .before .before .before .before .before .label .last .1 .1 .1 .0) ≡ length (x .args .labels .now) = search needs in
-    (rw (c .before .before .before .before .line-length .ensures) (creditor-framed (x .args .list .now) (x .args .ceiling) (length (x .args .labels .now)) (x .pre .0)), (batches-ready (x .args .list .now) (x .args .ceiling) (length (x .args .labels .now)) (x .pre .0) (c .before .before .before .before .before .before .before .before .before .before .label .last .1 .1 .0) (c .before .before .before .before .before .before .before .before .before .before .label .last .1 .1 .1 .0) (l .ensures .1 .0) v (l .ensures .1 .1) (l .result) (l .ensures .0) (c .before .before .before .before .before .if1 .left), rw (c .before .before .before .before .line-length .ensures) (written-short (x .args .list .now) (x .args .ceiling) (length (x .args .labels .now)) (x .pre .0) (c .before .before .before .before .before .before .before .before .before .before .label .last .1 .1 .0) (c .before .before .before .before .before .before .before .before .before .before .label .last .1 .1 .1 .0) (l .ensures .1 .0) v (l .ensures .1 .1) (l .result) (l .ensures .0) (c .before .before .before .before .before .if1 .left))))
+    let x = c .before .before .before .before .before .before .before .before .before .before .before .before .before .before .before in
+    let l = c .before .before .before .before .before .before .before .before .label in
+    let few = c .before .before .before .if1 .left in
+    let v : length (l .last .1 .1 .1 .0) ≡ length (x .args .labels .now) = search needs in
+    (batches-ready (x .args .list .now) (x .args .ceiling) (length (x .args .labels .now)) (x .pre .0) (l .last .1 .1 .0) (l .last .1 .1 .1 .0) (l .ensures .1 .0) v (l .ensures .1 .1) (l .result) (l .ensures .0) few, written-short (x .args .list .now) (x .args .ceiling) (length (x .args .labels .now)) (x .pre .0) (l .last .1 .1 .0) (l .last .1 .1 .1 .0) (l .ensures .1 .0) v (l .ensures .1 .1) (l .result) (l .ensures .0) few)
 
 same-length-3 : tie.Need-same-length-3
 same-length-3 c = search needs
@@ -61,16 +45,14 @@ same-length-5 c = search needs
 
 returns-2 : tie.Need-returns-2
 returns-2 c =
-    let x = c .before .before .before .before .before .before .before .before .before .before .before .before .before .before .before .before .before .before .before .before in
-    let l = c .before .before .before .before .before .before .before .before .before .before .before .before .before .label in
+    let x = c .before .before .before .before .before .before .before .before .before .before .before .before .before .before .before .before .before .before in
+    let l = c .before .before .before .before .before .before .before .before .before .before .before .label in
     let w = c .before .before .write-labelled in
-    let v : length (c .before .before .before .before .before .before .before .before .before .before .before .before .before .label .last .1 .1 .1 .0) ≡ length (x .args .labels .now) = search needs in
-    let s = x .args .list .now in
-    let bs = batchesFrom 0 (l .result) (c .before .before .before .before .before .before .before .before .before .before .before .before .before .label .last .1 .1 .1 .0) (listed s) in
-    let e = ap (λ (k : ℕ). messageBytes (creditorOf (unhex (take k s))) bs) (c .before .before .before .before .before .before .before .line-length .ensures) ∙ written-is (c .before .before .before .before .before .before .before .before .before .before .before .before .before .before .before .before .before .before .before .before .args .list .now) (c .before .before .before .before .before .before .before .before .before .before .before .before .before .before .before .before .before .before .before .before .args .ceiling) (length (c .before .before .before .before .before .before .before .before .before .before .before .before .before .before .before .before .before .before .before .before .args .labels .now)) (c .before .before .before .before .before .before .before .before .before .before .before .before .before .before .before .before .before .before .before .before .pre .0) (c .before .before .before .before .before .before .before .before .before .before .before .before .before .label .last .1 .1 .0) (c .before .before .before .before .before .before .before .before .before .before .before .before .before .label .last .1 .1 .1 .0) (l .ensures .1 .0) v (l .ensures .1 .1) (l .result) (l .ensures .0) in
-    let n = need-by-number (c .before .before .before .before .before .before .before .before .before .before .before .before .before .before .before .before .before .before .before .before .args .list .now) (c .before .before .before .before .before .before .before .before .before .before .before .before .before .before .before .before .before .before .before .before .args .ceiling) (length (c .before .before .before .before .before .before .before .before .before .before .before .before .before .before .before .before .before .before .before .before .args .labels .now)) (c .before .before .before .before .before .before .before .before .before .before .before .before .before .before .before .before .before .before .before .before .pre .0) in
-    answered-good (x .args .list .now) (x .args .ceiling) (x .args .out .now) (length (x .args .labels .now)) (x .pre .0) _ (answered (w .result)) (w .last .1 .1 .1 .1 .1 .0) e
-    (omega (arith, l .ensures .0, n, c .before .before .before .before .before .before .before .before .if1 .left)) (w .ensures .0) (w .ensures .1)
+    let v : length (l .last .1 .1 .1 .0) ≡ length (x .args .labels .now) = search needs in
+    let e = written-is (x .args .list .now) (x .args .ceiling) (length (x .args .labels .now)) (x .pre .0) (l .last .1 .1 .0) (l .last .1 .1 .1 .0) (l .ensures .1 .0) v (l .ensures .1 .1) (l .result) (l .ensures .0) in
+    let n = need-by-number (x .args .list .now) (x .args .ceiling) (length (x .args .labels .now)) (x .pre .0) in
+    answered-good (x .args .list .now) (x .args .ceiling) (x .args .out .now) (length (x .args .labels .now)) (x .pre .0) _ (answered (w .result)) (w .last .1 .1 .1 .1 .0) e
+    (omega (arith, l .ensures .0, n, c .before .before .before .before .before .before .if1 .left)) (w .ensures .0) (w .ensures .1)
 
 pub write-in-spec : {M : Type 1} → statement M
 write-in-spec =
@@ -80,8 +62,6 @@ write-in-spec =
     same-length
     same-length-2
     returns
-    line-length-requires
-    slice-aggregate-write-labelled
     write-labelled-requires
     same-length-3
     same-length-4

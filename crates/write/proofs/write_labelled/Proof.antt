@@ -1,16 +1,21 @@
--- `write::write_labelled` meets its contract. The message is not longer than the longest there is.
-use Rattle.write.proofs.Answers.{fitted-room}
-use Rattle.batched.specs.Ready.{batchesFrom}
-use Rattle.frames.specs.Hex.{unhex}
-use Rattle.listed.specs.Listed.{listed, creditorOf}
-use Rattle.written.specs.Pieces.{messageBytes}
-use lib.ListN.{length}
-use mathlib.Core.Path.{_≡_}
-use Prim.Native.Nat.{_≤_}
+-- `write::write_labelled` meets its contract. The first run writes nothing and tells the length; where there is none, the message is not longer than the output.
+use Rattle.write.proofs.Answers.{front-none, fitted-short, fitted-room}
+use Rattle.batched.specs.Ready.{messageBy}
+use lib.ListN.{length, drop}
+use mathlib.Core.List.{_++_}
+use mathlib.Core.Logic.{⊎-elim}
+use mathlib.Core.Path.{_≡_, _∙_}
+use Prim.Native.Nat.{_<_, _≤_}
 use native.Mathlib.Omega.{arith}
 use borrow.Author.Needs.{needs}
 use Rattle.write.proofs.write_labelled.Statement.{statement}
 use Rattle.write.proofs.write_labelled.Tie as tie
+
+slice-relend-prefix-put-message : tie.Need-slice-relend-prefix-put-message
+slice-relend-prefix-put-message c = search needs
+
+slice-aggregate-put-message : tie.Need-slice-aggregate-put-message
+slice-aggregate-put-message c = search needs
 
 put-message-requires : tie.Need-put-message-requires
 put-message-requires c κs = search needs
@@ -20,30 +25,46 @@ same-length c = search needs
 
 returns : tie.Need-returns
 returns c =
-    let x = c .before .before .before .before .before .before .before .before .before .before in
-    let a = x .args in
-    let w = c .before .before .put-message in
-    let m = messageBytes (creditorOf (unhex (a .line .now))) (batchesFrom 0 (a .batches) (a .labels .now) (listed (a .list .now))) in
+    let x = c .before .before .before .before .before .before .before .before .before .before .args in
+    let w = c .before .before .before .put-message in
+    let m = messageBy (x .list .now) (x .labels .now) (x .batches) in
+    let same : w .last .0 ++ drop 0 (x .out .now) ≡ x .out .now = front-none (x .out .now) (w .last .0) (w .ensures .same) in
     let n : w .result ≡ length m = omega (arith, w .ensures .end) in
-    let room : w .result ≤ length (a .out .now) = omega (arith, n, x .pre .1 .1, c .before .before .before .before .if1 .taken) in
-    (fitted-room m (length (a .out .now)) (w .result) n room, w .ensures .is (omega (arith, n, room)))
+    let short : length (x .out .now) < w .result = rw same at (c .if2 .taken) in
+    (fitted-short m (length (x .out .now)) (w .result) n short, same)
 
-write-measured-requires : tie.Need-write-measured-requires
-write-measured-requires c κs = search needs
+-- the output is as it was, and has room for the message
+room : (c : tie.Joined1) → let x = c .before .before .before .before .before .args in (c .if1 .out ≡ x .out .now) × (length (messageBy (x .list .now) (x .labels .now) (x .batches)) ≤ length (x .out .now))
+room c =
+    let x = c .before .before .before .before .before in
+    let o = x .args .out .now in
+    ⊎-elim
+    (λ w. let same : w .2 .last .0 ++ drop 0 o ≡ o = front-none o (w .2 .last .0) (w .2 .ensures .same) in (w .6 ∙ same, let h : w .2 .result ≤ length o = rw same at (w .5 .left) in omega (arith, h, w .2 .ensures .end)))
+    (λ w. (w .1, omega (arith, x .pre .1, w .0 .left)))
+    (c .if1 .came)
 
-same-length-2 : tie.Need-same-length-2
-same-length-2 c = search needs
+put-message-requires-2 : tie.Need-put-message-requires-2
+put-message-requires-2 c κs = search needs
 
 returns-2 : tie.Need-returns-2
-returns-2 c = search needs
+returns-2 c =
+    let x = c .before .before .before .before .before .before .before .before .before .args in
+    let h = room (c .before .before .before .before) in
+    let w = rw (h .0) at (c .before .before .put-message2 .ensures) in
+    (fitted-room (messageBy (x .list .now) (x .labels .now) (x .batches)) (length (x .out .now)) (c .before .before .put-message2 .result) (omega (arith, w .end)) (omega (arith, w .end, h .1)), w .is (omega (arith, h .1)))
+
+same-length-2 : tie.Need-same-length-2
+same-length-2 c = (rw (room (c .before .before .before .before) .0) at (c .before .before .put-message2 .ensures)) .same
 
 pub write-labelled-spec : {M : Type 1} → statement M
 write-labelled-spec =
     tie.close
     (tie.spec
+    slice-relend-prefix-put-message
+    slice-aggregate-put-message
     put-message-requires
     same-length
     returns
-    write-measured-requires
+    put-message-requires-2
     same-length-2
     returns-2)

@@ -1,10 +1,10 @@
 -- `write::message::put_message` meets its contract.
 use Rattle.write.proofs.Rounds.{concat-count, concat-cents, message-join}
 use Rattle.put.proofs.Writes.{wrote-then}
-use Rattle.batched.specs.Ready.{batchesFrom}
-use Rattle.frames.specs.Hex.{unhex}
-use Rattle.listed.specs.Listed.{listed, creditorOf}
-use mathlib.Core.Path.{_∙_}
+use Rattle.batched.specs.Ready.{creditorAt, batchesFrom}
+use Rattle.daylist.proofs.Ends.{part-is}
+use Rattle.listed.specs.Listed.{listed}
+use mathlib.Core.Path.{refl, _∙_}
 use native.Mathlib.Omega.{arith}
 use borrow.Author.Needs.{needs}
 use Rattle.write.proofs.message.put_message.Statement.{statement}
@@ -16,14 +16,23 @@ count-all-requires c κs = search needs
 cents-all-requires : tie.Need-cents-all-requires
 cents-all-requires c κs = search needs
 
+line-end-requires : tie.Need-line-end-requires
+line-end-requires c κs = search needs
+
+sub-put-opening : tie.Need-sub-put-opening
+sub-put-opening c = search needs
+
+part-put-opening-start : tie.Need-part-put-opening-start
+part-put-opening-start c = search needs
+
+part-put-opening-end : tie.Need-part-put-opening-end
+part-put-opening-end c = search needs
+
 put-opening-requires : tie.Need-put-opening-requires
-put-opening-requires c κs = search needs
+put-opening-requires c κs = let x = c .before .before .before .before .before .before .before .before .before in (rw (part-is (x .args .list .now) 0 _ (c .before .before .line-end .ensures .0)) (x .pre .ready .creditor), omega arith)
 
 put-batches-requires : tie.Need-put-batches-requires
-put-batches-requires c κs = let x = c .before .before .before .before .before .before .before .before .before .before .before .before in (x .pre .0, (x .pre .1, omega (arith, c .before .before .before .put-opening .ensures .1)))
-
-slice-aggregate-put : tie.Need-slice-aggregate-put
-slice-aggregate-put c = search needs
+put-batches-requires c κs = (c .before .before .before .before .before .before .before .before .before .before .before .before .before .pre, omega (arith, c .before .before .before .put-opening .ensures .1))
 
 put-requires : tie.Need-put-requires
 put-requires c κs = search needs
@@ -33,12 +42,12 @@ same-length c = search needs
 
 returns : tie.Need-returns
 returns c =
-    let x = c .before .before .before .before .before .before .before .before .before .before .before .before .before .before .before .before .before .before .before .before in
+    let x = c .before .before .before .before .before .before .before .before .before .before .before .before .before .before .before .before .before .before .before .before .before in
+    let s = x .args .list .now in
     let ls = x .args .labels .now in
-    let xs = listed (x .args .list .now) in
     let m = x .args .batches in
-    message-join (creditorOf (unhex (x .args .line .now))) (batchesFrom 0 m ls xs) _ _ (c .before .before .before .before .before .before .before .before .before .before .before .before .before .before .count-all .ensures ∙ concat-count ls xs m (x .pre .1 .ready .count)) (c .before .before .before .before .before .before .before .before .before .before .before .before .before .cents-all .ensures ∙ concat-cents ls xs m)
-    (wrote-then _ _ (c .before .before .before .before .before .before .before .before .before .before .before .put-opening .ensures .0) (wrote-then _ _ (c .before .before .before .before .before .before .before .put-batches .ensures .0) (c .before .before .put .ensures)))
+    message-join (creditorAt s) (batchesFrom 0 m ls (listed s)) _ _ (c .before .before .before .before .before .before .before .before .before .before .before .before .before .before .before .before .count-all .ensures ∙ concat-count ls (listed s) m (x .pre .ready .count)) (c .before .before .before .before .before .before .before .before .before .before .before .before .before .before .before .cents-all .ensures ∙ concat-cents ls (listed s) m)
+    (wrote-then _ _ (rw (part-is s 0 _ (c .before .before .before .before .before .before .before .before .before .before .before .before .before .before .line-end .ensures .0)) at (c .before .before .before .before .before .before .before .before .before .before .before .put-opening .ensures .0)) (wrote-then _ _ (c .before .before .before .before .before .before .before .put-batches .ensures .0) (c .before .before .put .ensures)))
 
 pub put-message-spec : {M : Type 1} → statement M
 put-message-spec =
@@ -46,9 +55,13 @@ put-message-spec =
     (tie.spec
     count-all-requires
     cents-all-requires
+    line-end-requires
+    sub-put-opening
+    part-put-opening-start
+    part-put-opening-end
     put-opening-requires
     put-batches-requires
-    slice-aggregate-put
+    (λ c. refl)
     put-requires
     same-length
     returns)
