@@ -1,6 +1,6 @@
 -- WHAT THE WRITERS OF A MESSAGE ASK of the list, its table of starts and its labels. Not to be believed: a list that is judged good, with its table and labels, has it all (`ready`).
---   collectionAt s a, creditorAt s   the collection that the line from a on holds; the creditor that the first line holds
---   Ready s table labels             the list s has its creditor, and each collection is found by the table and has a label
+--   collectionAt s a, creditorAt s   the collection of the line from a on; the creditor of the first line
+--   Ready s table labels             s has its creditor, and each collection is found by the table and has a label
 --   Batch .. k, Batches .. m         a collection has the label k; for each label below m one has it
 --   batchRoom                        no batch has more bytes
 --   batchesFrom k m labels xs        m batches from number k on: each the collections of xs that have its label

@@ -1,5 +1,5 @@
 -- FINDING ELEMENTS AMONG CONTENTS that are put together from pieces.
---   without n, above k                 tests of a content: it is not of the part n; it is of no part, or of a part from k on
+--   without n, above k                 of a content: not of the part n; of no part, or of a part from k on
 --   each-append, each-gather           each of what is put together passes a test
 --   above-without                      no element below k is among those above k
 --   all-append, all-without            the elements of a part

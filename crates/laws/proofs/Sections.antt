@@ -1,5 +1,5 @@
 -- THE LAWS OF `is`, `before`, `parts`, `all`, `lastOr` AND `the`.
---   map-before, map-parts, map-all, map-the   what is found among elements that are made of others is made of what is found among those
+--   map-before, map-parts, map-all, map-the   what is found among elements that are made of others
 --   length-all                                there are as many elements of a part as its parts
 use Prim.Native.Nat.{ℕ, suc}
 use mathlib.Core.Bool.{Bool, true, false}

@@ -60,7 +60,8 @@ pub fn put_totals(
     )
 }
 
-// Word n of words that stand one behind the other, each of four bytes but the last, which may have fewer; nothing where there are not so many.
+// Word n of words that stand one behind the other, each of four bytes but the last, which may have fewer; nothing where
+// there are not so many.
 fn put_word(out: &mut [u8], at: usize, words: &[u8], n: u8) -> usize
     requires { ⌜ at + 4 < 2 ^ 32 ⌝ }
     ensures { λ r. ⌜ Wrote (now (out .entry)) (now (out .exit)) at r (wordAt (now (words .entry)) n) ⌝ }

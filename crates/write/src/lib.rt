@@ -21,8 +21,8 @@ pub enum Written {
     Refused(profile::ListRefusal),
 }
 
-// The message of a list whose collections have their labels. An output that has room for the longest message there is needs no measuring; where there is no
-// room for the message nothing is written.
+// The message of a list whose collections have their labels. An output that has room for the longest message there is
+// needs no measuring. Where there is no room for the message nothing is written.
 fn write_labelled(
     list: &[u8],
     table: &[usize],

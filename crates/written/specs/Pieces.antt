@@ -3,7 +3,8 @@
 --   sumsBytes n sum                                a number of transactions, and their sum
 --   idBytes, totalsBytes, termsBytes, creditorBytes   of a batch before its first transaction, one behind the other
 --   headBytes cr n xs, batchBytes cr n xs          of batch n with the collections xs: before its first transaction; the whole
---   idsBytes cr, openingBytes cr n sum             of a message up to its creation time; up to its first batch, for n collections of `sum` cents
+--   idsBytes cr                                    of a message up to its creation time
+--   openingBytes cr n sum                          up to its first batch, for n collections of `sum` cents
 --   messageBytes cr bs                             the whole
 use Prim.Native.Nat.{ℕ, suc}
 use mathlib.Core.List.{List, [], _∷_, _++_}

@@ -78,10 +78,10 @@ returns c =
     let xs = pick (x .args .batch) (x .args .labels .now) (listed (x .args .list .now)) in (
       wrote-then _ _
           (head-join (creditorAt (x .args .list .now)) (x .args .batch + 1) xs _ _ _
-              (c .before .before .before .before .before .before .before .before .before .before .before .before .before .before .before .before .before .before .before .before .before .before .before .before .count-of .ensures ∙ sym (pick-count (x .args .batch) noCollection (x .args .labels .now) (listed (x .args .list .now)) (q .ready .count)))
-              (c .before .before .before .before .before .before .before .before .before .before .before .before .before .before .before .before .before .before .before .before .before .before .before .cents-of .ensures .0)
-              (first-terms (x .args .list .now) (x .args .table .now) (x .args .labels .now) (x .args .batch) q (f .result) (f .ensures))
-              (wrote-then _ _ (c .before .before .before .before .before .before .before .before .before .before .before .before .before .before .before .before .before .before .before .before .put-totals .ensures .0) (wrote-then _ _ (c .before .before .before .before .before .before .before .before .before .before .before .before .before .before .before .put-terms-at .ensures .0) (c .before .before .before .before .before .before .before .before .before .before .before .put-creditor-at .ensures .0))))
+          (c .before .before .before .before .before .before .before .before .before .before .before .before .before .before .before .before .before .before .before .before .before .before .before .before .count-of .ensures ∙ sym (pick-count (x .args .batch) noCollection (x .args .labels .now) (listed (x .args .list .now)) (q .ready .count)))
+          (c .before .before .before .before .before .before .before .before .before .before .before .before .before .before .before .before .before .before .before .before .before .before .before .cents-of .ensures .0)
+          (first-terms (x .args .list .now) (x .args .table .now) (x .args .labels .now) (x .args .batch) q (f .result) (f .ensures))
+          (wrote-then _ _ (c .before .before .before .before .before .before .before .before .before .before .before .before .before .before .before .before .before .before .before .before .put-totals .ensures .0) (wrote-then _ _ (c .before .before .before .before .before .before .before .before .before .before .before .before .before .before .before .put-terms-at .ensures .0) (c .before .before .before .before .before .before .before .before .before .before .before .put-creditor-at .ensures .0))))
           (wrote-then _ _ (c .before .before .before .before .before .before .before .put-transactions .ensures .0) (c .before .before .put .ensures)),
       omega (arith, q .ready .few, c .before .before .put .ensures .end, c .before .before .before .before .before .before .before .put-transactions .ensures .1, c .before .before .before .before .before .before .before .before .before .before .before .put-creditor-at .ensures .1, c .before .before .before .before .before .before .before .before .before .before .before .before .before .before .before .put-terms-at .ensures .1, c .before .before .before .before .before .before .before .before .before .before .before .before .before .before .before .before .before .before .before .before .put-totals .ensures .1),
     )

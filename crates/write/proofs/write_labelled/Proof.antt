@@ -1,4 +1,5 @@
--- `write::write_labelled` meets its contract. The first run writes nothing and tells the length; where there is none, the message is not longer than the output.
+-- `write::write_labelled` meets its contract. The first run writes nothing and tells the length. Where there is none,
+-- the output has room for the longest message there is.
 use Rattle.write.proofs.Answers.{front-none, fitted-short, fitted-room}
 use Rattle.batched.specs.Ready.{messageBy}
 use lib.ListN.{length, drop}
