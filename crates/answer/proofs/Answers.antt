@@ -1,57 +1,121 @@
 -- THE ANSWER: what each stage's arm finds, and the stages in a row, in plain variables.
---   differs-yes, differs-no   a declaration of the header, by the test that was made
+--   over-yes, over-no         the element that is one too many
+--   above, flaw-late, text-none, text-some   the first text that breaks its rule
+--   batch-none, batch-count, batch-sum   the first batch that differs
+--   absent, same, other       a declaration of the header
 --   room-yes, room-no         a table with room, and one that is too short
---   ends                      nothing behind a stage
---   four                      four stages in a row
 --   answered                  the whole answer
-use Prim.Native.Nat.{ℕ, _≤_, _<_}
-use mathlib.Core.Bool.{Bool, true, false}
-use mathlib.Core.List.{[], _∷_}
+use Prim.Native.Nat.{ℕ, zero, suc, _+_, _-_, _*_, _≤_, _<_}
+use native.Mathlib.Omega.{arith}
+use mathlib.Core.List.{List, [], _∷_}
 use mathlib.Core.Option.{Option, none, some}
 use mathlib.Core.Path.{_≡_, refl, ap, sym, _∙_}
-use borrow.Author.Tests.{le-leb, lt-leb}
+use borrow.Author.Tests.{le-leb, lt-leb, eq-eqb, ne-eqb}
 use lib.Dec.{leb}
-use Rattle.profile.specs.Totals.{totals}
+use lib.ListN.{getD}
+use Rattle.profile.specs.declared.Flaw.{Flaw}
+use Rattle.profile.specs.declared.Flaw.the-variants.{CheckDigits}
 use Rattle.profile.specs.declared.Totals.{Totals}
-use Rattle.profile.specs.declared.Tally.{Tally}
-use Rattle.profile.specs.Refusals.{Fault, fault}
+use Rattle.profile.specs.Refusals.{Fault, fault, flawed}
+use Rattle.tree.specs.Parts as part
 use Rattle.message.specs.Verdict.{Verdict, verdict, at, first, orElse, unless}
-use Rattle.state.specs.declared.BatchFault.{BatchFault}
-use Rattle.state.specs.declared.State.{State}
-use Rattle.state.specs.State.{pick, faulted, tallied}
-use Rattle.answer.specs.Answer.{badFound, overFound, faultFound, lastFound, answerFrom, answer}
+use Rattle.heard.specs.State.{Word, over}
+use Rattle.heard.specs.Row.{flawSlot, batchesSlot, transactionsSlot, faultSlot, flaws, badIn, faultAt, wordAt, rowOf}
+use Rattle.answer.specs.Answer.{batchFound, differsIn, answer}
 
-module _ (n : ℕ) where
-  pub differs-yes : (p : ℕ) (z w : Bool) → z ≡ w → z ≡ true → some (fault n p) ≡ at n (pick w (some p) none)
-  differs-yes p z w e g = rw (← e, g) refl
+-- ─── what each arm finds ───
 
-  pub differs-no : (p : ℕ) (z w : Bool) → z ≡ w → z ≡ false → none ≡ at n (pick w (some p) none)
-  differs-no p z w e g = rw (← e, g) refl
+module _ (n k p : ℕ) where
+  pub over-yes : k ≡ 0 → some (fault n p) ≡ at n (over k p)
+  over-yes h = rw h refl
 
-  pub room-yes : (a room : ℕ) → a ≤ room → none ≡ at n (unless (leb a room) a)
-  room-yes a room h = rw (le-leb a room h) refl
+  pub over-no : (k ≡ 0 → ⊥) → none ≡ at n (over k p)
+  over-no h = go k h
+    where
+      go : (k : ℕ) → (k ≡ 0 → ⊥) → none ≡ at n (over k p)
+      go zero h = absurd (h refl)
+      go (suc k) h = refl
 
-  pub room-no : (a room : ℕ) → room < a → some (fault n a) ≡ at n (unless (leb a room) a)
-  room-no a room h = rw (lt-leb a room h) refl
+pub above : (a n : ℕ) → a ≤ n → (n ≡ a → ⊥) → suc a ≤ n
+above a n h g = omega (arith, g)
 
-pub ends : (a : Option Fault) → orElse a none ≡ a
+-- from 8 on there is one kind
+pub flaw-late : (n : ℕ) → 8 ≤ n → CheckDigits ≡ getD flaws (n - 1) CheckDigits
+flaw-late n h =
+    let e : n - 1 ≡ suc (suc (suc (suc (suc (suc (suc (n - 8))))))) = omega arith in
+    sym (ap (λ (k : ℕ). getD flaws k CheckDigits) e ∙ last (n - 8))
+  where
+    last : (k : ℕ) → getD (CheckDigits ∷ []) k CheckDigits ≡ CheckDigits
+    last zero = refl
+    last (suc k) = refl
+
+module _ (n p : ℕ) where
+  pub text-none : n ≡ 0 → none ≡ badIn n p
+  text-none h = rw h refl
+
+  pub text-some : (f : Flaw) → (n ≡ 0 → ⊥) → f ≡ getD flaws (n - 1) CheckDigits → some (flawed 5 f p) ≡ badIn n p
+  text-some f h e = ap (λ (x : Flaw). some (flawed 5 x p)) e ∙ go n h
+    where
+      go : (n : ℕ) → (n ≡ 0 → ⊥) → some (flawed 5 (getD flaws (n - 1) CheckDigits) p) ≡ badIn n p
+      go zero h = absurd (h refl)
+      go (suc n) h =
+          let z : suc n - 1 ≡ n = omega arith in
+          ap (λ (k : ℕ). some (flawed 5 (getD flaws k CheckDigits) p)) z
+
+  pub batch-none : n ≡ 0 → none ≡ batchFound (faultAt n p)
+  batch-none h = rw h refl
+
+  pub batch-count : n ≡ 6 → some (fault 6 p) ≡ batchFound (faultAt n p)
+  batch-count h = rw h refl
+
+  pub batch-sum : (n ≡ 0 → ⊥) → (n ≡ 6 → ⊥) → some (fault 7 p) ≡ batchFound (faultAt n p)
+  batch-sum h g = go n h g
+    where
+      go : (n : ℕ) → (n ≡ 0 → ⊥) → (n ≡ 6 → ⊥) → some (fault 7 p) ≡ batchFound (faultAt n p)
+      go zero h g = absurd (h refl)
+      go (suc n) h g = rw (ne-eqb (suc n) 6 g) refl
+
+module _ (i : ℕ) (w : Word) (m x n : ℕ) (e : m ≡ w .mark) where
+  pub absent : m ≡ 0 → none ≡ at i (differsIn w n)
+  absent h = rw (sym e ∙ h) refl
+
+  pub same : x ≡ w .worth → x ≡ n → none ≡ at i (differsIn w n)
+  same f h = go (w .mark)
+    where
+      go : (k : ℕ) → none ≡ at i (differsIn (record { mark = k; start = w .start; length = w .length; worth = w .worth }) n)
+      go zero = refl
+      go (suc k) = rw (eq-eqb (w .worth) n (sym f ∙ h)) refl
+
+  pub other : (p : ℕ) → (m ≡ 0 → ⊥) → x ≡ w .worth → (x ≡ n → ⊥) → p ≡ w .start → some (fault i p) ≡ at i (differsIn w n)
+  other p h f g s = ap (λ (k : ℕ). some (fault i k)) s ∙ go (w .mark) (λ z. h (e ∙ z))
+    where
+      go : (k : ℕ) → (k ≡ 0 → ⊥) → some (fault i (w .start)) ≡ at i (differsIn (record { mark = k; start = w .start; length = w .length; worth = w .worth }) n)
+      go zero h = absurd (h refl)
+      go (suc k) h = rw (ne-eqb (w .worth) n (λ z. g (f ∙ z))) refl
+
+module _ (n a room : ℕ) where
+  pub room-yes : a ≤ room → none ≡ at n (unless (leb a room) a)
+  room-yes h = rw (le-leb a room h) refl
+
+  pub room-no : room < a → some (fault n a) ≡ at n (unless (leb a room) a)
+  room-no h = rw (lt-leb a room h) refl
+
+-- ─── the stages in a row ───
+
+ends : (a : Option Fault) → orElse a none ≡ a
 ends none = refl
 ends (some a) = refl
 
 two : {r a b x y : Option Fault} → r ≡ orElse a b → a ≡ x → b ≡ y → r ≡ orElse x y
 two e f g = rw (e, f, g) refl
 
-pub four : {a b c d p q u v r s t : Option Fault} → p ≡ a → q ≡ b → u ≡ c → v ≡ d → r ≡ orElse u v → s ≡ orElse q r → t ≡ orElse p s
-    → t ≡ first (a ∷ b ∷ c ∷ d ∷ [])
-four {d = d} e f g h i j k = two k e (two j f (two i g (h ∙ sym (ends d))))
-
-pub answered : (st : State) (slips rows : ℕ) (f : BatchFault) (y : Tally) (z : Totals) {o : Verdict} {a b c d e r s t all : Option Fault}
-    → f ≡ faulted st → y ≡ tallied st → z ≡ totals y
-    → a ≡ at 3 (overFound (st .batches .over)) → b ≡ at 4 (overFound (st .transactions .over)) → c ≡ badFound (st .bad) → d ≡ faultFound f
-    → e ≡ first (lastFound (record { slips = slips; rows = rows }) (st .header) z)
-    → r ≡ orElse d e → s ≡ orElse c r → t ≡ orElse b s → all ≡ orElse a t → o ≡ verdict all z
-    → o ≡ answer (record { slips = slips; rows = rows }) st
-answered st slips rows f y z ef ey ez ea eb ec ed ee er es et eall eo =
-    eo ∙ ap (λ (x : Option Fault). verdict x z) (two eall ea (two et eb (two es ec (two er ed ee))))
-    ∙ ap (λ (x : BatchFault). answerFrom (record { slips = slips; rows = rows }) st x z) ef
-    ∙ ap (answerFrom (record { slips = slips; rows = rows }) st (faulted st)) (ez ∙ ap totals ey)
+pub answered : (ns : List ℕ) (y : Totals) (slips rows : ℕ) {o : Verdict} {a b c d e f g h j k l m p q all : Option Fault}
+    → a ≡ at 3 (over (getD ns batchesSlot 0) (getD ns (batchesSlot + 1) 0)) → b ≡ at 4 (over (getD ns transactionsSlot 0) (getD ns (transactionsSlot + 1) 0))
+    → c ≡ badIn (getD ns flawSlot 0) (getD ns (flawSlot + 1) 0) → d ≡ batchFound (faultAt (getD ns faultSlot 0) (getD ns (faultSlot + 1) 0))
+    → e ≡ at 8 (differsIn (wordAt ns part.messageCount) (y .transactions .0)) → f ≡ at 9 (differsIn (wordAt ns part.messageSum) (y .cents .0))
+    → g ≡ at 10 (unless (leb (12 * y .transactions .0) slips) (12 * y .transactions .0)) → h ≡ at 11 (unless (leb (8 * y .batches) rows) (8 * y .batches))
+    → j ≡ orElse g h → k ≡ orElse f j → l ≡ orElse e k → m ≡ orElse d l → p ≡ orElse c m → q ≡ orElse b p → all ≡ orElse a q
+    → o ≡ verdict all y → o ≡ answer (record { slips = slips; rows = rows }) (rowOf ns) y
+unfolding rowOf
+answered ns y slips rows ea eb ec ed ee ef eg eh ej ek el em ep eq eall eo =
+    eo ∙ ap (λ (x : Option Fault). verdict x y) (two eall ea (two eq eb (two ep ec (two em ed (two el ee (two ek ef (two ej eg (eh ∙ sym (ends _)))))))))

@@ -1,3 +1,3 @@
--- Answers   what each stage finds, and the stages in a row      Right   the state's answer is the verdict
+-- Answers   what each stage finds, and the stages in a row      Right   the answer is the verdict
 pub mod Answers
 pub mod Right

@@ -1,24 +1,25 @@
-// What the check answers: the stages 3 to 11, from the state behind the last event. Definitions: specs/.
+// What the check answers: the stages 3 to 11, from what was heard and the totals behind the last event. Definitions: specs/.
 ghost use mathlib.Core.Path.{_≡_};
-ghost use Prim.Native.Nat.{_+_, _*_, _≤_};
-ghost use mathlib.Core.Option.{none, some};
+ghost use Prim.Native.Nat.{_+_, _-_, _*_, _≤_};
 ghost use lib.Dec.{leb};
+ghost use lib.ListN.{length, getD};
 ghost use Rattle.profile.specs.Limits.{mostBytes};
-ghost use Rattle.profile.specs.Totals.{countDiffers, sumDiffers};
+ghost use Rattle.profile.specs.declared.Flaw.the-variants.{CheckDigits};
+ghost use Rattle.tree.specs.Parts as part;
 ghost use Rattle.message.specs.Verdict.{verdict, at, first, orElse, unless};
-ghost use Rattle.state.specs.State.{pick};
-ghost use Rattle.state.specs.Fill.{Within};
-ghost use Rattle.answer.specs.Answer.{badFound, overFound, faultFound, lastFound, answer, found};
+ghost use Rattle.heard.specs.State.{over};
+ghost use Rattle.heard.specs.Row.{heardLength, flawSlot, batchesSlot, transactionsSlot, faultSlot, flaws, badIn, faultAt, wordAt, rowOf};
+ghost use Rattle.answer.specs.Answer.{batchFound, differsIn, answer, found};
 ghost use Rattle.answer.specs.Said.{said};
+use heard::Part;
+use heard::Slot;
+use heard::Word;
+use heard::row;
 use profile::ControlSum;
+use profile::Flaw;
 use profile::NumberOfTransactions;
 use profile::Refusal;
 use profile::Totals;
-use state::BatchFault;
-use state::FirstBad;
-use state::Header;
-use state::Over;
-use state::State;
 
 // What a stage of the check finds.
 pub enum Stage {
@@ -32,8 +33,6 @@ pub enum Checked {
     Refused(Refusal),
 }
 
-// ─── the stages ───
-
 // The first stage's refusal, else the second's.
 fn or_else(a: Stage, b: Stage) -> Stage
     ensures { λ r. ⌜ found r ≡ orElse (found a) (found b) ⌝ }
@@ -44,65 +43,104 @@ fn or_else(a: Stage, b: Stage) -> Stage
     }
 }
 
-fn batches_stage(over: Over) -> Stage
-    ensures { λ r. ⌜ found r ≡ at 3 (overFound over) ⌝ }
+// ─── what was heard ───
+
+fn batches_stage(heard: &[u64]) -> Stage
+    requires { ⌜ length (now heard) ≡ heardLength ⌝ }
+    ensures { λ r. ⌜ found r ≡ at 3 (over (getD (now (heard .entry)) batchesSlot 0) (getD (now (heard .entry)) (batchesSlot + 1) 0)) ⌝ }
 {
-    match over {
-        Over::No => Stage::Passed,
-        Over::At(place) => Stage::Refused(Refusal::TooManyBatches(place)),
+    if heard[Slot::BATCHES] != 0 {
+        return Stage::Passed;
+    }
+    Stage::Refused(Refusal::TooManyBatches(heard[Slot::BATCHES + 1] as usize))
+}
+
+fn transactions_stage(heard: &[u64]) -> Stage
+    requires { ⌜ length (now heard) ≡ heardLength ⌝ }
+    ensures { λ r. ⌜ found r ≡ at 4 (over (getD (now (heard .entry)) transactionsSlot 0) (getD (now (heard .entry)) (transactionsSlot + 1) 0)) ⌝ }
+{
+    if heard[Slot::TRANSACTIONS] != 0 {
+        return Stage::Passed;
+    }
+    Stage::Refused(Refusal::TooManyTransactions(heard[Slot::TRANSACTIONS + 1] as usize))
+}
+
+// The kind of rule that has this number, from 1.
+fn flaw_of(n: u64) -> Flaw
+    requires { ⌜ 1 ≤ n ⌝ }
+    ensures { λ r. ⌜ r ≡ getD flaws (n - 1) CheckDigits ⌝ }
+{
+    match n {
+        1 => Flaw::Length,
+        2 => Flaw::Letter,
+        3 => Flaw::Slash,
+        4 => Flaw::Number,
+        5 => Flaw::Date,
+        6 => Flaw::Code,
+        7 => Flaw::Shape,
+        _ => Flaw::CheckDigits,
     }
 }
 
-fn transactions_stage(over: Over) -> Stage
-    ensures { λ r. ⌜ found r ≡ at 4 (overFound over) ⌝ }
+fn text_stage(heard: &[u64]) -> Stage
+    requires { ⌜ length (now heard) ≡ heardLength ⌝ }
+    ensures { λ r. ⌜ found r ≡ badIn (getD (now (heard .entry)) flawSlot 0) (getD (now (heard .entry)) (flawSlot + 1) 0) ⌝ }
 {
-    match over {
-        Over::No => Stage::Passed,
-        Over::At(place) => Stage::Refused(Refusal::TooManyTransactions(place)),
+    let n = heard[Slot::FLAW];
+    if n == 0 {
+        return Stage::Passed;
     }
+    let flaw = flaw_of(n);
+    Stage::Refused(Refusal::Text(flaw, heard[Slot::FLAW + 1] as usize))
 }
 
-fn text_stage(bad: FirstBad) -> Stage
-    ensures { λ r. ⌜ found r ≡ badFound bad ⌝ }
+fn batch_stage(heard: &[u64]) -> Stage
+    requires { ⌜ length (now heard) ≡ heardLength ⌝ }
+    ensures { λ r. ⌜ found r ≡ batchFound (faultAt (getD (now (heard .entry)) faultSlot 0) (getD (now (heard .entry)) (faultSlot + 1) 0)) ⌝ }
 {
-    match bad {
-        FirstBad::None => Stage::Passed,
-        FirstBad::At(flaw, start) => Stage::Refused(Refusal::Text(flaw, start)),
+    let n = heard[Slot::FAULT];
+    if n == 0 {
+        return Stage::Passed;
     }
+    let start = heard[Slot::FAULT + 1] as usize;
+    if n == 6 {
+        return Stage::Refused(Refusal::BatchCount(start));
+    }
+    Stage::Refused(Refusal::BatchSum(start))
 }
 
-fn batch_stage(fault: BatchFault) -> Stage
-    ensures { λ r. ⌜ found r ≡ faultFound fault ⌝ }
+// ─── the totals ───
+
+fn count_stage(heard: &[u64], n: NumberOfTransactions) -> Stage
+    requires { ⌜ length (now heard) ≡ heardLength ⌝ }
+    ensures { λ r. ⌜ found r ≡ at 8 (differsIn (wordAt (now (heard .entry)) part.messageCount) (n .0)) ⌝ }
 {
-    match fault {
-        BatchFault::None => Stage::Passed,
-        BatchFault::Count(start) => Stage::Refused(Refusal::BatchCount(start)),
-        BatchFault::Sum(start) => Stage::Refused(Refusal::BatchSum(start)),
+    if row::number(heard, Part::MESSAGE_COUNT, Word::MARK) == 0 {
+        return Stage::Passed;
     }
+    if row::number(heard, Part::MESSAGE_COUNT, Word::WORTH) == n.0 {
+        return Stage::Passed;
+    }
+    let start = row::number(heard, Part::MESSAGE_COUNT, Word::START);
+    Stage::Refused(Refusal::MessageCount(start as usize))
 }
 
-fn count_stage(h: Header, n: NumberOfTransactions) -> Stage
-    ensures { λ r. ⌜ found r ≡ at 8 (pick (countDiffers (h .«declared_count») n) (some (h .«count_at»)) none) ⌝ }
+fn sum_stage(heard: &[u64], c: ControlSum) -> Stage
+    requires { ⌜ length (now heard) ≡ heardLength ⌝ }
+    ensures { λ r. ⌜ found r ≡ at 9 (differsIn (wordAt (now (heard .entry)) part.messageSum) (c .0)) ⌝ }
 {
-    let declared = h.declared_count;
-    if profile::count_differs(declared, n) {
-        return Stage::Refused(Refusal::MessageCount(h.count_at));
+    if row::number(heard, Part::MESSAGE_SUM, Word::MARK) == 0 {
+        return Stage::Passed;
     }
-    Stage::Passed
-}
-
-fn sum_stage(h: Header, c: ControlSum) -> Stage
-    ensures { λ r. ⌜ found r ≡ at 9 (pick (sumDiffers (h .«declared_sum») c) (some (h .«sum_at»)) none) ⌝ }
-{
-    let declared = h.declared_sum;
-    if profile::sum_differs(declared, c) {
-        return Stage::Refused(Refusal::MessageSum(h.sum_at));
+    if row::number(heard, Part::MESSAGE_SUM, Word::WORTH) == c.0 {
+        return Stage::Passed;
     }
-    Stage::Passed
+    let start = row::number(heard, Part::MESSAGE_SUM, Word::START);
+    Stage::Refused(Refusal::MessageSum(start as usize))
 }
 
 fn slips_stage(n: NumberOfTransactions, slips: usize) -> Stage
-    requires { ⌜ n .0 ≤ mostBytes ⌝ }
+    requires { ⌜ n .0 ≤ mostBytes + 1 ⌝ }
     ensures { λ r. ⌜ found r ≡ at 10 (unless (leb (12 * n .0) slips) (12 * n .0)) ⌝ }
 {
     let needed = 12 * n.0 as usize;
@@ -123,23 +161,7 @@ fn rows_stage(batches: u64, rows: usize) -> Stage
     Stage::Refused(Refusal::BatchesTooShort(needed))
 }
 
-// ─── the stages in a row ───
-
-// The stages that look at the tally: the header's declarations, then the room of the tables.
-fn last_stages(h: Header, y: Totals, slips: usize, rows: usize) -> Stage
-    requires { ⌜ (y .transactions .0 ≤ mostBytes) × (y .batches ≤ mostBytes + 1) ⌝ }
-    ensures { λ r. ⌜ found r ≡ first (lastFound (record { slips = slips; rows = rows }) h y) ⌝ }
-{
-    let n = y.transactions;
-    let c = y.cents;
-    let eight = count_stage(h, n);
-    let nine = sum_stage(h, c);
-    let ten = slips_stage(n, slips);
-    let eleven = rows_stage(y.batches, rows);
-    let rest = or_else(ten, eleven);
-    let more = or_else(nine, rest);
-    or_else(eight, more)
-}
+// ─── the answer ───
 
 fn conclude(all: Stage, y: Totals) -> Checked
     ensures { λ r. ⌜ said r ≡ verdict (found all) y ⌝ }
@@ -151,25 +173,24 @@ fn conclude(all: Stage, y: Totals) -> Checked
 }
 
 // What is answered behind the last event, where the tables hold `slips` and `rows` numbers.
-pub fn answer(state: State, slips: usize, rows: usize) -> Checked
-    requires { ⌜ Within mostBytes state ⌝ }
-    ensures { λ r. ⌜ said r ≡ answer (record { slips = slips; rows = rows }) state ⌝ }
+pub fn answer(heard: &[u64], totals: Totals, slips: usize, rows: usize) -> Checked
+    requires { ⌜ (length (now heard) ≡ heardLength) × ((totals .transactions .0 ≤ mostBytes + 1) × (totals .batches ≤ mostBytes + 1)) ⌝ }
+    ensures { λ r. ⌜ said r ≡ answer (record { slips = slips; rows = rows }) (rowOf (now (heard .entry))) totals ⌝ }
 {
-    let header = state.header;
-    let batches = state.batches;
-    let transactions = state.transactions;
-    let bad = state.bad;
-    let a = batches.over;
-    let b = transactions.over;
-    let fault = state.faulted();
-    let tally = state.tallied();
-    let totals = tally.hand_back();
-    let three = batches_stage(a);
-    let four = transactions_stage(b);
-    let five = text_stage(bad);
-    let six = batch_stage(fault);
-    let last = last_stages(header, totals, slips, rows);
-    let after_five = or_else(six, last);
+    let n = totals.transactions;
+    let c = totals.cents;
+    let three = batches_stage(heard);
+    let four = transactions_stage(heard);
+    let five = text_stage(heard);
+    let six = batch_stage(heard);
+    let eight = count_stage(heard, n);
+    let nine = sum_stage(heard, c);
+    let ten = slips_stage(n, slips);
+    let eleven = rows_stage(totals.batches, rows);
+    let after_nine = or_else(ten, eleven);
+    let after_eight = or_else(nine, after_nine);
+    let after_six = or_else(eight, after_eight);
+    let after_five = or_else(six, after_six);
     let after_four = or_else(five, after_five);
     let after_three = or_else(four, after_four);
     let all = or_else(three, after_three);

@@ -1,23 +1,20 @@
--- A PASS OF THE CHECK over the message's events, which answers and fills the tables that it is lent; and what the check makes of it.
---   carried           what is carried over the events is what it is over what they say
---   Read, read-said   what a message that was read says, and what was carried behind it
---   small             what was read keeps its numbers small
---   verdict-long, verdict-stuck, verdict-judged   the answer of a pass
---   filled-long, filled-stuck, filled             the tables of a pass
---   take-put, copied  the front of a table that was filled; and copied
---   Passed, accepted-room   an accepted message is read, its totals are the exact ones, and the tables have room for it
---   check-refused, check-accepted, check-copied   the check: refused; accepted, and the tables filled, or copied
-use Prim.Native.Nat.{ℕ, _+_, _*_, _-_, _≤_}
+-- A WALK OF THE CHECK over the message's events, which answers and fills the tables that it is lent; and what the check makes of it.
+--   events-said       what is heard of the events is what is heard of what they say
+--   Read, was-read    what a message that was read says, and what was heard of it
+--   small, totals-fit what was read keeps its numbers small
+--   verdict-long, verdict-stuck, verdict-judged   the answer of a walk
+--   filled-long, filled-stuck, filled             the tables of a walk
+--   lent-none, filled-lent   a table of which nothing was lent, and its filling then
+--   Passed            an accepted message is read, its totals are the exact ones, and the tables have room for it
+--   check-refused, check-accepted   the check: refused; accepted, and the tables filled
+use Prim.Native.Nat.{ℕ, _+_, _-_, _≤_}
 use native.Mathlib.Omega.{arith}
 use mathlib.Core.List.{List, [], _∷_, _++_}
 use mathlib.Core.Option.{Option, none, some}
-use mathlib.Core.Path.{_≡_, refl, ap, sym, subst, subst⁻¹, _∙_}
+use mathlib.Core.Path.{_≡_, refl, ap, sym, subst, _∙_}
 use mathlib.Core.Logic.{inl, inr}
 use lib.ListN.{length, take, drop}
-use lib.Seq.{take-at, length-take-le}
 use Rattle.laws.specs.Bytes.{Bytes}
-use Rattle.laws.specs.Put.{putAt}
-use Rattle.laws.proofs.Puts.{put-back}
 use Rattle.profile.specs.Limits.{mostBytes}
 use Rattle.profile.specs.Refusals.{Fault}
 use Rattle.profile.specs.declared.Refusal.{Refusal}
@@ -28,21 +25,23 @@ use Rattle.tree.specs.Form.{Message, message, messageEvents}
 use Rattle.tree.specs.Pain008.{Document, declaration}
 use Rattle.message.specs.declared.Told.{Told}
 use Rattle.message.specs.Message.{tell, told, batchesOf}
-use Rattle.message.specs.Verdict.{Room, accepted, verdict, first, stages, totalsOf, verdictOf, slipsOf, rowsOf}
+use Rattle.message.specs.Verdict.{Room, accepted, verdict, first, stages, totalsOf, verdictOf}
+use Rattle.heard.specs.declared.Tally.{Tally}
+use Rattle.heard.specs.State.{State, fresh, step, freshTally}
+use Rattle.heard.specs.Row.{Row, rowOf, stateOf}
+use Rattle.heard.specs.Bounds.{Within}
+use Rattle.heard.proofs.Fold.{fold}
+use Rattle.heard.proofs.Bounds.{within-more}
+use Rattle.heard.proofs.Right.{slips-right, rows-right}
+use Rattle.events.specs.Events.{Finished}
 use Rattle.answer.specs.declared.Checked.{Checked}
 use Rattle.answer.specs.declared.Checked.the-variants.{Accepted, Refused}
-use Rattle.state.specs.declared.State.{State}
-use Rattle.state.specs.State.{fresh, step}
 use Rattle.answer.specs.Said.{said}
 use Rattle.answer.specs.Answer.{answer}
-use Rattle.state.specs.Fill.{Carried, stepOf, carryStep, filledSlips, filledRows, Within}
-use Rattle.state.proofs.Bounds.{within-more}
-use Rattle.state.proofs.Fold.{fold, project}
-use Rattle.answer.proofs.Right.{verdict-right}
-use Rattle.state.proofs.Rows.{rows-right, length-rows}
-use Rattle.state.proofs.Slips.{slips-right, length-slips-from}
+use Rattle.answer.proofs.Right.{totals-small, verdict-right}
 use Rattle.reader.specs.declared.Outcome.{Outcome}
 use Rattle.reader.specs.declared.Outcome.the-variants.{TooLong as LongOne, Stuck as StuckAt, Read as WasRead}
+use Rattle.reader.specs.Told.{stepOf}
 use Rattle.reader.specs.Walk as walk
 use Rattle.reader.specs.Read.{ReadRight, Bounded}
 use Rattle.checked.specs.Check.{saidBy, roomOf, Checks}
@@ -51,78 +50,82 @@ use Rattle.checking.specs.Inner.{Verdicts, Fills}
 use Rattle.checked.proofs.Accepts.{accepted-only}
 use Rattle.checked.proofs.Outcome.{same-said}
 
-carried : (s : Bytes) (c : Carried) (es : List Event) → walk.fold Carried (stepOf s) s c es ≡ fold carryStep c (tell s es)
+events-said : (s : Bytes) (st : State) (es : List Event) → walk.fold State (stepOf s) s st es ≡ fold step st (tell s es)
 unfolding stepOf
-carried s c [] = refl
-carried s c (e ∷ es) = carried s (carryStep c (told s e)) es
+events-said s st [] = refl
+events-said s st (e ∷ es) = events-said s (step st (told s e)) es
 
--- the tables never enter the state
-alone : (c : Carried) (ts : List Told) → (fold carryStep c ts) .state ≡ fold step (c .state) ts
-unfolding carryStep
-alone c ts = project carryStep step (λ (x : Carried). x .state) (λ x t. refl) c ts
+-- what reading promises of a message s, with the numbers and the tally that it began with, the answer that it gave, and what was then in what it was lent
+module _ (s : Bytes) (slips rows a b : List ℕ) (ns₀ ns : List ℕ) (y₀ : Tally) (o : Outcome)
+    (g : (sl rw : List ℕ) → stateOf ns₀ freshTally sl rw ≡ fresh sl rw) (f : y₀ ≡ freshTally)
+    (h : ReadRight Document s (stateOf ns₀ y₀ slips rows) o ns a b) where
+  begun : stateOf ns₀ y₀ slips rows ≡ fresh slips rows
+  begun = ap (λ (y : Tally). stateOf ns₀ y slips rows) f ∙ g slips rows
 
-module _ (s : Bytes) (slips rows : List ℕ) (st : State) (a b : List ℕ) where
-  abbrev begun : Carried
-  begun = record { state = fresh; slips = slips; rows = rows }
+  seen : (x : Outcome) → o ≡ x → ReadRight Document s (fresh slips rows) x ns a b
+  seen x e = subst (λ (z : Outcome). ReadRight Document s (fresh slips rows) z ns a b) e (subst (λ (st : State). ReadRight Document s st o ns a b) begun h)
 
-  abbrev behind : Carried
-  behind = record { state = st; slips = a; rows = b }
-
-  record Read : Type 0 where
+  record Read (y : Tally) : Type 0 where
     pub short : length s ≤ mostBytes
     pub read : Message Document
     pub bytes : message declaration read ≡ s
-    pub ends : fold carryStep begun (saidBy read) ≡ behind
+    pub ends : stateOf ns y a b ≡ fold step (fresh slips rows) (saidBy read)
 
-  read-said : ReadRight Document s begun WasRead behind → Read
+  was-read : (y : Tally) → o ≡ WasRead y → Read y
   unfolding ReadRight
-  read-said (h, (m, e, f)) =
-      record { short = h; read = m; bytes = e; ends = ap (λ (x : Bytes). fold carryStep begun (tell x (messageEvents declaration m))) e ∙ sym (carried s begun (messageEvents declaration m)) ∙ f }
+  was-read y e =
+      let q = seen (WasRead y) e in
+      let m : Message Document = q .1 .0 in
+      record {
+        short = q .0;
+        read = m;
+        bytes = q .1 .1;
+        ends = sym (q .1 .2) ∙ events-said s (fresh slips rows) (messageEvents declaration m) ∙ ap (λ (x : Bytes). fold step (fresh slips rows) (tell x (messageEvents declaration m))) (sym (q .1 .1));
+      }
 
--- what reading promises, with the state that it began with, the answer that it gave, and the state behind it
-abbrev Reads : Bytes → State → List ℕ → List ℕ → Outcome → State → List ℕ → List ℕ → Type 0
-Reads s f slips rows o st a b = ReadRight Document s (record { state = f; slips = slips; rows = rows }) o (record { state = st; slips = a; rows = b })
+  pub small : (y : Tally) → o ≡ WasRead y → Bounded (length s) o ns → Within mostBytes (stateOf ns y [] [])
+  small y e w = within-more (subst (λ (z : Outcome). Bounded (length s) z ns) e w) (was-read y e .short)
 
-module _ (s : Bytes) (slips rows a b : List ℕ) (f st : State) (o : Outcome) (g : f ≡ fresh) (h : Reads s f slips rows o st a b) where
-  seen : (x : Outcome) → o ≡ x → Reads s fresh slips rows x st a b
-  seen x e = subst (λ (y : Outcome). Reads s fresh slips rows y st a b) e (subst (λ (y : State). Reads s y slips rows o st a b) g h)
-
-  pub small : (x : State) → x ≡ st → o ≡ WasRead → Bounded (length s) o st → Within mostBytes x
-  small x d e w = rw d (within-more (subst (λ (y : Outcome). Bounded (length s) y st) e w) (read-said s slips rows st a b (seen WasRead e) .short))
+  -- the totals behind the last event
+  pub totals-fit : (y : Tally) → o ≡ WasRead y → Bounded (length s) o ns → (w : Row) (z : Totals) (a′ b′ : List ℕ) → Finished (stateOf ns y a b) w z a′ b′
+      → (z .transactions .0 ≤ mostBytes + 1) × (z .batches ≤ mostBytes + 1)
+  totals-fit y e v w z a′ b′ q = totals-small mostBytes (stateOf ns y [] []) z (small y e v) (q .totals)
 
   pub verdict-long : (room : Room) → o ≡ LongOne → Verdicts s room (Refused TooLong)
   unfolding ReadRight Verdicts
-  verdict-long room e = inl (seen LongOne e .0, refl)
+  verdict-long room e = inl (seen LongOne e, refl)
 
   pub verdict-stuck : (room : Room) (n : ℕ) → o ≡ StuckAt n → Verdicts s room (Refused (NotOfTheForm n))
   unfolding ReadRight Verdicts
   verdict-stuck room n e = let y = seen (StuckAt n) e in inr (inl (y .0, (n, (y .1, refl))))
 
-  pub verdict-judged : (room : Room) (x : State) (r : Checked) → x ≡ st → o ≡ WasRead → said r ≡ answer room x → Verdicts s room r
-  unfolding Verdicts
-  verdict-judged room x r k e q =
-      let y = read-said s slips rows st a b (seen WasRead e) in
-      let d : st ≡ fold step fresh (saidBy (y .read)) = sym (ap (λ (c : Carried). c .state) (y .ends)) ∙ alone (begun s slips rows st a b) (saidBy (y .read)) in
-      inr (inr (y .short, (y .read, (y .bytes, q ∙ ap (answer room) (k ∙ d) ∙ verdict-right (saidBy (y .read)) room))))
-
   pub filled-long : (a′ b′ : List ℕ) → o ≡ LongOne → Fills s slips rows a′ b′
   unfolding ReadRight Fills
-  filled-long a′ b′ e l m y n = absurd (omega (arith, seen LongOne e .0, l))
+  filled-long a′ b′ e l m y n = absurd (omega (arith, seen LongOne e, l))
 
   pub filled-stuck : (a′ b′ : List ℕ) (p : ℕ) → o ≡ StuckAt p → Fills s slips rows a′ b′
   unfolding ReadRight Fills
   filled-stuck a′ b′ p e l m y n = absurd (seen (StuckAt p) e .1 .0 (m, y))
 
-  pub filled : (x : State) (a′ b′ : List ℕ) → x ≡ st → o ≡ WasRead → a′ ≡ filledSlips (record { state = x; slips = a; rows = b })
-      → b′ ≡ filledRows (record { state = x; slips = a; rows = b }) → Fills s slips rows a′ b′
-  unfolding Fills
-  filled x a′ b′ k e p q _ m j n =
-      let y = read-said s slips rows st a b (seen WasRead e) in
-      let c : Carried = begun s slips rows st a b in
-      let d : record { state = x; slips = a; rows = b } ≡ fold carryStep c (saidBy m) =
-      ap (λ (z : State). record { state = z; slips = a; rows = b }) k ∙ sym (y .ends) ∙ ap (fold carryStep c) (same-said (y .read) m s (y .bytes) j)
-      in
-      (p ∙ ap filledSlips d ∙ slips-right slips rows (saidBy m) (n .slips), q ∙ ap filledRows d ∙ rows-right slips rows (saidBy m) (n .rows))
+  -- behind the last event
+  module _ (y : Tally) (e : o ≡ WasRead y) (w : Row) (z : Totals) (a′ b′ : List ℕ) (q : Finished (stateOf ns y a b) w z a′ b′) where
+    ended : Finished (fold step (fresh slips rows) (saidBy (was-read y e .read))) w z a′ b′
+    ended = subst (λ (st : State). Finished st w z a′ b′) (was-read y e .ends) q
+
+    pub verdict-judged : (room : Room) (r : Checked) → said r ≡ answer room w z → Verdicts s room r
+    unfolding Verdicts
+    verdict-judged room r v =
+        let x = was-read y e in
+        let d = ended in
+        inr (inr (x .short, (x .read, (x .bytes, v ∙ verdict-right slips rows (saidBy (x .read)) w z room (d .said) (d .bad) (d .batches) (d .transactions) (d .fault) (d .totals)))))
+
+    pub filled : Fills s slips rows a′ b′
+    unfolding Fills
+    filled _ m j n =
+        let x = was-read y e in
+        let d : Finished (fold step (fresh slips rows) (saidBy m)) w z a′ b′ =
+        subst (λ (ts : List Told). Finished (fold step (fresh slips rows) ts) w z a′ b′) (same-said (x .read) m s (x .bytes) j) ended in
+        (d .slips ∙ slips-right slips rows (saidBy m) (n .slips), d .rows ∙ rows-right slips rows (saidBy m) (n .rows))
 
 module _ (s : Bytes) (slips rows a b : List ℕ) where
   pub check-refused : (f : Refusal) → Verdicts s (roomOf slips rows) (Refused f) → a ≡ slips → b ≡ rows → Checks s slips rows (said (Refused f)) a b
@@ -132,19 +135,13 @@ module _ (s : Bytes) (slips rows a b : List ℕ) where
       record { case = inr (inl (record { short = h; place = n; not-of-form = x; answer = e; slips-kept = p; rows-kept = q })) }
   check-refused f (inr (inr (h, (m, (e, v))))) p q = record { case = inr (inr (record { short = h; read = m; bytes = e; answer = v; slips-are = p; rows-are = q })) }
 
--- ─── tables that were filled beside the lent ones ───
+-- a table of which nothing was lent
+pub lent-none : (l ys : List ℕ) → length ys ≡ 0 → take 0 l ++ (ys ++ drop (0 - 0) (drop 0 l)) ≡ l
+lent-none l [] h = refl
+lent-none l (x ∷ ys) h = absurd (omega (arith, h))
 
--- the front of a table that was filled
-take-put : (l xs : List ℕ) (n : ℕ) → length xs ≡ n → take n (putAt l 0 xs) ≡ xs
-unfolding putAt
-take-put l xs n h = take-at xs (drop (0 + length xs) l) n h
-
--- the front of a table that was lent, and came back as the front of another
-pub copied : (l xs ys : List ℕ) (n : ℕ) → n ≤ length xs → ys ≡ take (n - 0) (drop 0 xs) → take 0 l ++ (ys ++ drop (n - 0) (drop 0 l)) ≡ putAt l 0 (take n xs)
-copied l xs ys n h e =
-    let z : n - 0 ≡ n = omega arith in
-    let f : ys ≡ take n xs = rw z at e in
-    rw f (put-back l (take n xs) 0 n (omega arith) (omega (arith, length-take-le n xs h)))
+pub filled-lent : (s : Bytes) (slips rows slips₁ rows₁ a b : List ℕ) → slips₁ ≡ slips → rows₁ ≡ rows → Fills s slips₁ rows₁ a b → Fills s slips rows a b
+filled-lent s slips rows slips₁ rows₁ a b e f h = subst (λ (x : List ℕ). Fills s x rows a b) e (subst (λ (x : List ℕ). Fills s slips₁ x a b) f h)
 
 verdict-totals : (o : Option Fault) (y z : Totals) → verdict o y ≡ accepted z → z ≡ y
 verdict-totals none y z e = cc
@@ -170,11 +167,6 @@ module _ (s : Bytes) (room : Room) (t : Totals) (v : Verdicts s room (Accepted t
       go (inr (inr (h, (m, (e, v))))) =
           record { short = h; read = m; bytes = e; answer = v; totals = verdict-totals (first (stages room (saidBy m))) (totalsOf (batchesOf (saidBy m))) t (sym v); enough = accepted-only room (saidBy m) t (sym v) .1 .1 }
 
-  pub accepted-room : (12 * t .transactions .0 ≤ room .slips) × (8 * t .batches ≤ room .rows)
-  accepted-room =
-      let y = passed in
-      (subst⁻¹ (λ (z : Totals). 12 * z .transactions .0 ≤ room .slips) (y .totals) (y .enough .slips), subst⁻¹ (λ (z : Totals). 8 * z .batches ≤ room .rows) (y .totals) (y .enough .rows))
-
 module _ (s : Bytes) (slips rows slips′ rows′ : List ℕ) (t : Totals) (v : Verdicts s (roomOf slips rows) (Accepted t)) where
   pub check-accepted : Fills s slips rows slips′ rows′ → Checks s slips rows (said (Accepted t)) slips′ rows′
   unfolding Fills
@@ -182,26 +174,3 @@ module _ (s : Bytes) (slips rows slips′ rows′ : List ℕ) (t : Totals) (v : 
       let y = passed s (roomOf slips rows) t v in
       let g = f (y .short) (y .read) (y .bytes) (y .enough) in
       record { case = inr (inr (record { short = y .short; read = y .read; bytes = y .bytes; answer = y .answer; slips-are = g .0; rows-are = g .1 })) }
-
-  pub check-copied : (a₀ b₀ a b : List ℕ) → Fills s a₀ b₀ a b → 12 * t .transactions .0 ≤ length a₀ → 8 * t .batches ≤ length b₀
-      → slips′ ≡ putAt slips 0 (take (12 * t .transactions .0) a) → rows′ ≡ putAt rows 0 (take (8 * t .batches) b) → Checks s slips rows (said (Accepted t)) slips′ rows′
-  unfolding Fills
-  check-copied a₀ b₀ a b f p q x y =
-      let z = passed s (roomOf slips rows) t v in
-      let ts : List Told = saidBy (z .read) in
-      let g = f (z .short) (z .read) (z .bytes) (record {
-        slips = subst (λ (u : Totals). 12 * u .transactions .0 ≤ length a₀) (z .totals) p;
-        rows = subst (λ (u : Totals). 8 * u .batches ≤ length b₀) (z .totals) q;
-      }) in
-      let n : length (slipsOf ts) ≡ 12 * t .transactions .0 = length-slips-from 1 (batchesOf ts) ∙ ap (λ (u : Totals). 12 * u .transactions .0) (sym (z .totals)) in
-      let m : length (rowsOf ts) ≡ 8 * t .batches = length-rows 0 (batchesOf ts) ∙ ap (λ (u : Totals). 8 * u .batches) (sym (z .totals)) in
-      record {
-        case = inr (inr (record {
-          short = z .short;
-          read = z .read;
-          bytes = z .bytes;
-          answer = z .answer;
-          slips-are = x ∙ ap (λ (l : List ℕ). putAt slips 0 (take (12 * t .transactions .0) l)) (g .0) ∙ ap (putAt slips 0) (take-put a₀ (slipsOf ts) _ n);
-          rows-are = y ∙ ap (λ (l : List ℕ). putAt rows 0 (take (8 * t .batches) l)) (g .1) ∙ ap (putAt rows 0) (take-put b₀ (rowsOf ts) _ m);
-        }));
-      }

@@ -1,18 +1,18 @@
 -- WHAT A TEST SAYS, and going by cases on one.
---   bool-cases, eqb-cases   by cases on a test, with what each case knows
+--   bool-cases, eqb-cases, ltb-cases   by cases on a test, with what each case knows
 --   eqb-comm                a test for equality either way round
 --   and-l, and-r, and-both  a conjunction, and its two sides
 --   T-true, true-T          `T b` and `b ≡ true` say the same; T-false: so do `T (not b)` and `b ≡ false`
 --   same-test               two tests that imply one another are equal
 --   max-cases               the larger of two numbers is one of them
-use Prim.Native.Nat.{ℕ, _≤_, max}
+use Prim.Native.Nat.{ℕ, _≤_, _<_, max}
 use native.Mathlib.Nat.{max-eq-left, max-eq-right}
 use native.Mathlib.Decide.{decLe}
 use native.Mathlib.Omega.{arith}
 use mathlib.Core.Bool.{Bool, true, false, not, _&&_}
 use mathlib.Core.Path.{_≡_, refl, sym, subst, subst⁻¹}
 use mathlib.Core.Logic.{_≢_}
-use lib.Dec.{T, T-not, eqb, eqb→eq, eqb-refl}
+use lib.Dec.{T, T-not, eqb, ltb, eqb→eq, eqb-refl, ltb→lt, nltb→le}
 use borrow.Author.Tests.{eq-eqb, ne-eqb}
 
 pub bool-cases : (P : Bool → Type 0) (z : Bool) → (T z → P true) → (T (not z) → P false) → P z
@@ -24,6 +24,9 @@ eqb-neq a b t e = T-not (eqb a b) t (subst (λ (c : ℕ). T (eqb a c)) e (eqb-re
 
 pub eqb-cases : (P : Bool → Type 0) (a b : ℕ) → (a ≡ b → P true) → (a ≢ b → P false) → P (eqb a b)
 eqb-cases P a b f g = bool-cases P (eqb a b) (λ t. f (eqb→eq a b t)) (λ t. g (eqb-neq a b t))
+
+pub ltb-cases : (P : Bool → Type 0) (a b : ℕ) → (a < b → P true) → (b ≤ a → P false) → P (ltb a b)
+ltb-cases P a b f g = bool-cases P (ltb a b) (λ t. f (ltb→lt a b t)) (λ t. g (nltb→le a b t))
 
 pub eqb-comm : (a b : ℕ) → eqb a b ≡ eqb b a
 eqb-comm a b = eqb-cases (λ z. z ≡ eqb b a) a b (λ e. sym (eq-eqb b a (sym e))) (λ n. sym (ne-eqb b a (λ e. n (sym e))))

@@ -54,3 +54,7 @@ debtorAccount = 16
 
 abbrev pub remittance : ℕ
 remittance = 17
+
+-- behind the last
+abbrev pub partsEnd : ℕ
+partsEnd = 18

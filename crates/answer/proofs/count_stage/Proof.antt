@@ -1,17 +1,30 @@
--- `answer::count_stage` meets its contract, by the test that is made.
-use Rattle.answer.proofs.Answers.{differs-yes, differs-no}
+-- `answer::count_stage` meets its contract, by the tests that are made.
+use Rattle.tree.specs.Parts as part
+use Rattle.heard.specs.Row.{wordAt}
+use Rattle.answer.proofs.Answers.{absent, same, other}
 use borrow.Author.Needs.{needs}
 use Rattle.answer.proofs.count_stage.Statement.{statement}
 use Rattle.answer.proofs.count_stage.Tie as tie
 
-count-differs-requires : tie.Need-count-differs-requires
-count-differs-requires c κs = search needs
+number-requires : tie.Need-number-requires
+number-requires c κs = search needs
 
 returns : tie.Need-returns
-returns c = differs-yes 8 (c .before .before .args .h .«count_at») _ _ (c .before .count-differs .ensures) (c .if1 .taken)
+returns c = absent 8 (wordAt (c .before .before .before .args .heard .now) part.messageCount) _ 0 (c .before .before .before .args .n .0) (c .before .number .ensures) (c .if1 .taken)
+
+number-requires-2 : tie.Need-number-requires-2
+number-requires-2 c κs = search needs
 
 returns-2 : tie.Need-returns-2
-returns-2 c = differs-no 8 (c .before .before .args .h .«count_at») _ _ (c .before .count-differs .ensures) (c .if1 .left)
+returns-2 c = same 8 (wordAt (c .before .before .before .before .before .before .args .heard .now) part.messageCount) _ _ (c .before .before .before .before .before .before .args .n .0) (c .before .before .before .before .number .ensures) (c .before .before .number2 .ensures) (c .if2 .taken)
+
+number-requires-3 : tie.Need-number-requires-3
+number-requires-3 c κs = search needs
+
+returns-3 : tie.Need-returns-3
+returns-3 c = other 8 (wordAt (c .before .before .before .before .before .before .before .args .heard .now) part.messageCount) _ _ (c .before .before .before .before .before .before .before .args .n .0) (c .before .before .before .before .before .number .ensures) _ (c .before .before .before .before .if1 .left) (c .before .before .before .number2 .ensures) (c .before .if2 .left) (c .number3 .ensures)
 
 pub count-stage-spec : {M : Type 1} → statement M
-count-stage-spec = tie.close (tie.spec count-differs-requires returns returns-2)
+count-stage-spec =
+    tie.close
+    (tie.spec number-requires returns number-requires-2 returns-2 number-requires-3 returns-3)

@@ -1,20 +1,38 @@
--- `answer::text_stage` meets its contract, case by case.
-use mathlib.Core.Path.{refl}
+-- `answer::text_stage` meets its contract, by the test that is made.
+use Rattle.answer.proofs.Answers.{text-none, text-some}
 use borrow.Author.Needs.{needs}
 use Rattle.answer.proofs.text_stage.Statement.{statement}
 use Rattle.answer.proofs.text_stage.Tie as tie
 
-enum-told : tie.Need-enum-told
-enum-told c = search needs
-
-enum-known-bad : tie.Need-enum-known-bad
-enum-known-bad c = search needs
+shared-slice-read-n : tie.Need-shared-slice-read-n
+shared-slice-read-n c = search needs
 
 returns : tie.Need-returns
-returns c = search needs
+returns c = text-none _ _ (c .if1 .taken)
+
+flaw-of-requires : tie.Need-flaw-of-requires
+flaw-of-requires c κs = search needs
+
+add-t7 : tie.Need-add-t7
+add-t7 c = search needs
+
+mul-t8 : tie.Need-mul-t8
+mul-t8 c = search needs
+
+shared-slice-read-t5 : tie.Need-shared-slice-read-t5
+shared-slice-read-t5 c = search needs
 
 returns-2 : tie.Need-returns-2
-returns-2 c = rw (c .before .bad .given .1) refl
+returns-2 c = text-some _ _ _ (c .before .before .if1 .left) (c .before .flaw-of .ensures)
 
 pub text-stage-spec : {M : Type 1} → statement M
-text-stage-spec = tie.close (tie.spec enum-told enum-known-bad returns returns-2)
+text-stage-spec =
+    tie.close
+    (tie.spec
+    shared-slice-read-n
+    returns
+    flaw-of-requires
+    add-t7
+    mul-t8
+    shared-slice-read-t5
+    returns-2)

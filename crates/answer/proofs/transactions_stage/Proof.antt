@@ -1,20 +1,27 @@
--- `answer::transactions_stage` meets its contract, case by case.
-use mathlib.Core.Path.{refl}
+-- `answer::transactions_stage` meets its contract, by the test that is made.
+use Rattle.answer.proofs.Answers.{over-yes, over-no}
 use borrow.Author.Needs.{needs}
 use Rattle.answer.proofs.transactions_stage.Statement.{statement}
 use Rattle.answer.proofs.transactions_stage.Tie as tie
 
-enum-told : tie.Need-enum-told
-enum-told c = search needs
-
-enum-known-over : tie.Need-enum-known-over
-enum-known-over c = search needs
+shared-slice-read-if1 : tie.Need-shared-slice-read-if1
+shared-slice-read-if1 c = search needs
 
 returns : tie.Need-returns
-returns c = search needs
+returns c = over-no 4 _ _ (c .if1 .taken)
+
+add-t5 : tie.Need-add-t5
+add-t5 c = search needs
+
+mul-t6 : tie.Need-mul-t6
+mul-t6 c = search needs
+
+shared-slice-read-t3 : tie.Need-shared-slice-read-t3
+shared-slice-read-t3 c = search needs
 
 returns-2 : tie.Need-returns-2
-returns-2 c = rw (c .before .over .given .1) refl
+returns-2 c = over-yes 4 _ _ (c .before .if1 .left)
 
 pub transactions-stage-spec : {M : Type 1} → statement M
-transactions-stage-spec = tie.close (tie.spec enum-told enum-known-over returns returns-2)
+transactions-stage-spec =
+    tie.close (tie.spec shared-slice-read-if1 returns add-t5 mul-t6 shared-slice-read-t3 returns-2)

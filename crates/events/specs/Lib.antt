@@ -1,0 +1,2 @@
+-- Events   what an event does, part by part
+pub mod Events

@@ -1,0 +1,69 @@
+-- WHAT WAS SAID, PART BY PART: behind events it is the definitions' `the p`, in numbers. One law over the part p, for each of the three ways to go on.
+--   wordOf o            the one element of a part, or none, as a word
+--   saying-word         behind the events that only say something
+--   inside-word         inside a batch, for a part before the transaction
+--   step-word           for a part before the batch
+--   saying-mark         a mark stays
+--   span-word, declared-word, worth-word   the columns of a word are those of the definitions
+use Prim.Native.Nat.{ℕ}
+use mathlib.Core.Bool.{Bool, true, false}
+use mathlib.Core.List.{List, [], _∷_}
+use mathlib.Core.Option.{Option, none, some}
+use mathlib.Core.Path.{_≡_, refl, ap, _∙_}
+use lib.Dec.{ltb}
+use Rattle.tree.specs.Parts as part
+use Rattle.message.specs.declared.Told.{Told}
+use Rattle.message.specs.Message.{is, all, lastOr, worthOf}
+use Rattle.message.specs.Verdict.{span, declared}
+use Rattle.heard.specs.State.{pick, Word, nothing, word, opens, State, added, began, saying, inside, step}
+use Rattle.heard.proofs.Fold.{by-bool, fold, project, keeps}
+
+abbrev pub wordOf : Option Told → Word
+wordOf none = nothing
+wordOf (some t) = word t
+
+-- a word that goes by itself
+abbrev hear : ℕ → Word → Told → Word
+hear p x t = pick (is p t) (word t) x
+
+pub saying-word : (p : ℕ) (d : Option Told) (st : State) (ts : List Told) → st .said p ≡ wordOf d → fold saying st ts .said p ≡ wordOf (lastOr d (all p ts))
+saying-word p d st ts e =
+    project saying (hear p) (λ x. x .said p) (λ x t. refl) st ts ∙ ap (λ (w : Word). fold (hear p) w ts) e ∙ keeps p word d wordOf (λ t. refl) ts
+
+pub inside-word : (p : ℕ) (d : Option Told) (st : State) (ts : List Told) → ltb p part.transaction ≡ true → st .said p ≡ wordOf d
+    → fold inside st ts .said p ≡ wordOf (lastOr d (all p ts))
+inside-word p d st ts h e =
+    project inside (hear p) (λ x. x .said p) same st ts ∙ ap (λ (w : Word). fold (hear p) w ts) e ∙ keeps p word d wordOf (λ t. refl) ts
+  where
+    same : (x : State) (t : Told) → inside x t .said p ≡ hear p (x .said p) t
+    same x t = by-bool (λ z. hear p (pick z (added x) x .said p) t ≡ hear p (x .said p) t) (is part.transaction t) (rw h refl) refl
+
+pub step-word : (p : ℕ) (d : Option Told) (st : State) (ts : List Told) → ltb p part.batch ≡ true → ltb p part.transaction ≡ true → st .said p ≡ wordOf d
+    → fold step st ts .said p ≡ wordOf (lastOr d (all p ts))
+unfolding step
+step-word p d st ts h i e =
+    project step (hear p) (λ x. x .said p) same st ts ∙ ap (λ (w : Word). fold (hear p) w ts) e ∙ keeps p word d wordOf (λ t. refl) ts
+  where
+    in-batch : (x : State) (t : Told) → inside x t .said p ≡ hear p (x .said p) t
+    in-batch x t = by-bool (λ z. hear p (pick z (added x) x .said p) t ≡ hear p (x .said p) t) (is part.transaction t) (rw i refl) refl
+
+    same : (x : State) (t : Told) → step x t .said p ≡ hear p (x .said p) t
+    same x t =
+        in-batch (pick (is part.batch t) (began x) x) t
+        ∙ by-bool (λ z. hear p (pick z (began x) x .said p) t ≡ hear p (x .said p) t) (is part.batch t) (rw h refl) refl
+
+pub saying-mark : (p : ℕ) (st : State) (ts : List Told) → st .said p .mark ≡ 1 → fold saying st ts .said p .mark ≡ 1
+saying-mark p st [] h = h
+saying-mark p st (t ∷ ts) h = saying-mark p (saying st t) ts (by-bool (λ z. pick z (word t) (st .said p) .mark ≡ 1) (is p t) refl h)
+
+pub span-word : (o : Option Told) → wordOf o .start ∷ wordOf o .length ∷ [] ≡ span o
+span-word none = refl
+span-word (some t) = refl
+
+pub declared-word : (o : Option Told) → wordOf o .mark ∷ wordOf o .worth ∷ [] ≡ declared o
+declared-word none = refl
+declared-word (some t) = refl
+
+pub worth-word : (o : Option Told) → wordOf o .worth ≡ worthOf o
+worth-word none = refl
+worth-word (some t) = refl

@@ -1,0 +1,124 @@
+-- WHAT WAS HEARD, IN A ROW OF NUMBERS, as it is lent from event to event. Not to be believed: no promise to a caller speaks of it.
+-- Four numbers for each part, at 4 × its number: its word. Behind them two for each first fault.
+--   heardLength, flawSlot ..   how many numbers they are, where the first faults stand
+--   Row, rowOf ns      what the numbers tell
+--   stateOf ns y s r   with the tally y and the tables s and r
+--   badIn, faultAt     a first fault in two numbers
+--   withSaid, withoutFrom, withBad, withBatch, withTransaction, withFault   what each of the stores does
+use Prim.Native.Nat.{ℕ, zero, suc, _+_, _-_, _*_}
+use mathlib.Core.List.{List, [], _∷_}
+use mathlib.Core.Option.{Option, none, some}
+use lib.Dec.{eqb, ltb}
+use lib.ListN.{getD}
+use Rattle.laws.specs.Put.{putAt}
+use Rattle.profile.specs.Refusals.{Fault, fault, flawed}
+use Rattle.profile.specs.declared.Flaw.{Flaw}
+use Rattle.profile.specs.declared.Flaw.the-variants.{Length, Letter, Slash, Number, Date, Code, Shape, CheckDigits}
+use Rattle.tree.specs.Parts.{partsEnd}
+use Rattle.message.specs.Verdict.{orElse}
+use Rattle.heard.specs.declared.Tally.{Tally}
+use Rattle.heard.specs.State.{pick, ifAny, Word, nothing, Limit, fewer, State}
+
+abbrev pub flawSlot : ℕ
+flawSlot = 72
+
+abbrev pub batchesSlot : ℕ
+batchesSlot = 74
+
+abbrev pub transactionsSlot : ℕ
+transactionsSlot = 76
+
+abbrev pub faultSlot : ℕ
+faultSlot = 78
+
+abbrev pub heardLength : ℕ
+heardLength = 80
+
+-- ─── what the numbers tell ───
+
+abbrev pub wordAt : List ℕ → ℕ → Word
+wordAt ns p = record { mark = getD ns (4 * p) 0; start = getD ns (4 * p + 1) 0; length = getD ns (4 * p + 2) 0; worth = getD ns (4 * p + 3) 0 }
+
+abbrev pub wordsIn : List ℕ → ℕ → Word
+wordsIn ns p = pick (ltb p partsEnd) (wordAt ns p) nothing
+
+abbrev pub limitAt : List ℕ → ℕ → Limit
+limitAt ns i = record { left = getD ns i 0; place = getD ns (i + 1) 0 }
+
+-- the kind of rule by number, from 1
+abbrev pub flaws : List Flaw
+flaws = Length ∷ Letter ∷ Slash ∷ Number ∷ Date ∷ Code ∷ Shape ∷ CheckDigits ∷ []
+
+abbrev pub badIn : ℕ → ℕ → Option Fault
+badIn zero p = none
+badIn (suc m) p = some (flawed 5 (getD flaws m CheckDigits) p)
+
+abbrev pub faultAt : ℕ → ℕ → Option Fault
+faultAt n p = ifAny n (some (fault n p)) none
+
+pub record Row : Type 0 where
+  pub said : ℕ → Word
+  pub bad : Option Fault
+  pub batches : Limit
+  pub transactions : Limit
+  pub fault : Option Fault
+
+unfoldable pub rowOf : List ℕ → Row
+rowOf ns = record {
+  said = wordsIn ns;
+  bad = badIn (getD ns flawSlot 0) (getD ns (flawSlot + 1) 0);
+  batches = limitAt ns batchesSlot;
+  transactions = limitAt ns transactionsSlot;
+  fault = faultAt (getD ns faultSlot 0) (getD ns (faultSlot + 1) 0);
+}
+
+abbrev pub stateWith : Row → Tally → List ℕ → List ℕ → State
+stateWith w y s r = record {
+  said = w .said;
+  bad = w .bad;
+  batches = w .batches;
+  transactions = w .transactions;
+  fault = w .fault;
+  tally = y;
+  slips = s;
+  rows = r;
+}
+
+abbrev pub stateOf : List ℕ → Tally → List ℕ → List ℕ → State
+stateOf ns y s r = stateWith (rowOf ns) y s r
+
+-- ─── what a store does ───
+
+-- one element more, of those that the numbers at i count
+abbrev pub counted : List ℕ → ℕ → ℕ → List ℕ
+counted ns i p = ifAny (getD ns i 0) (putAt ns i ((getD ns i 0 - 1) ∷ p ∷ [])) ns
+
+abbrev pub withSaid : Row → ℕ → Word → Row
+withSaid w q x = record { said = λ p. pick (eqb q p) x (w .said p); bad = w .bad; batches = w .batches; transactions = w .transactions; fault = w .fault }
+
+abbrev pub withoutFrom : Row → ℕ → Row
+withoutFrom w n = record { said = λ p. pick (ltb p n) (w .said p) nothing; bad = w .bad; batches = w .batches; transactions = w .transactions; fault = w .fault }
+
+abbrev pub withBad : Row → Option Fault → Row
+withBad w f = record { said = w .said; bad = orElse (w .bad) f; batches = w .batches; transactions = w .transactions; fault = w .fault }
+
+abbrev pub withFault : Row → Option Fault → Row
+withFault w f = record { said = w .said; bad = w .bad; batches = w .batches; transactions = w .transactions; fault = orElse (w .fault) f }
+
+abbrev pub withBatch : Row → ℕ → Row
+withBatch w p = record {
+  said = w .said;
+  bad = w .bad;
+  batches = fewer (w .batches .left) (w .batches .place) p;
+  transactions = w .transactions;
+  fault = w .fault;
+}
+
+abbrev pub withTransaction : Row → ℕ → Row
+withTransaction w p = record {
+  said = w .said;
+  bad = w .bad;
+  batches = w .batches;
+  transactions = fewer (w .transactions .left) (w .transactions .place) p;
+  fault = w .fault;
+}

@@ -1,0 +1,173 @@
+// What was heard of a message so far. Definitions of what it must hold: specs/.
+ghost use mathlib.Core.Path.{_≡_};
+ghost use Prim.Native.Nat.{_+_, _^_, _<_};
+ghost use Rattle.heard.specs.State.{freshTally, withTransaction, closed, begun, totals};
+use profile::ControlSum;
+use profile::NumberOfTransactions;
+use profile::Totals;
+
+pub mod row;
+
+// ─── parts, and places in the row ───
+
+// The parts that elements play in what a message says, by number.
+pub struct Part(pub usize);
+
+impl Part {
+    pub const MESSAGE_COUNT: usize = 1;
+
+    pub const MESSAGE_SUM: usize = 2;
+
+    pub const BATCH: usize = 3;
+
+    pub const BATCH_COUNT: usize = 4;
+
+    pub const BATCH_SUM: usize = 5;
+
+    pub const SCHEME: usize = 6;
+
+    pub const SEQUENCE: usize = 7;
+
+    pub const TRANSACTION: usize = 9;
+
+    pub const END_TO_END: usize = 10;
+
+    pub const AMOUNT: usize = 11;
+
+    pub const MANDATE: usize = 12;
+
+    pub const DEBTOR_NAME: usize = 15;
+
+    pub const DEBTOR_ACCOUNT: usize = 16;
+
+    pub const REMITTANCE: usize = 17;
+
+    // Behind the last.
+    pub const END: usize = 18;
+}
+
+// The numbers of a part, from its first on.
+pub struct Word(pub usize);
+
+impl Word {
+    // 1 where it said something, else 0.
+    pub const MARK: usize = 0;
+
+    // Where its text starts.
+    pub const START: usize = 1;
+
+    // How many bytes its text has.
+    pub const LENGTH: usize = 2;
+
+    // The number that its text tells.
+    pub const WORTH: usize = 3;
+
+    // How many they are.
+    pub const END: usize = 4;
+}
+
+// Where the row has the first faults, two numbers for each.
+pub struct Slot(pub usize);
+
+impl Slot {
+    // The first text that breaks its rule: the kind of rule, from 1, and the text's start.
+    pub const FLAW: usize = Word::END * Part::END;
+
+    // How many batches may still come before one is too many, and the place of the last one.
+    pub const BATCHES: usize = Slot::FLAW + 2;
+
+    // The same of transactions.
+    pub const TRANSACTIONS: usize = Slot::BATCHES + 2;
+
+    // The first batch whose declared count or sum differs: 6 or 7, and the start of that text.
+    pub const FAULT: usize = Slot::TRANSACTIONS + 2;
+
+    pub const END: usize = Slot::FAULT + 2;
+}
+
+// ─── the tally ───
+
+// The running tally: the batches that were begun, the transactions and cents of those before the open one, and its own count and cents.
+pub struct Tally {
+    pub batches: u64,
+    pub transactions: NumberOfTransactions,
+    pub cents: ControlSum,
+    pub count: NumberOfTransactions,
+    pub sum: ControlSum,
+}
+
+impl Tally {
+    // Nothing was read.
+    pub fn fresh() -> Self
+        ensures { λ r. ⌜ r ≡ freshTally ⌝ }
+    {
+        Tally {
+            batches: 0,
+            transactions: NumberOfTransactions(0),
+            cents: ControlSum(0),
+            count: NumberOfTransactions(0),
+            sum: ControlSum(0),
+        }
+    }
+
+    // One transaction more in the open batch.
+    pub fn add_transaction(self, cents: ControlSum) -> Self
+        requires { ⌜ (self .count .0 + 1 < 2 ^ 64) × (self .sum .0 + cents .0 < 2 ^ 64) ⌝ }
+        ensures { λ r. ⌜ r ≡ withTransaction self cents ⌝ }
+    {
+        let transactions = self.transactions;
+        let before = self.cents;
+        Tally {
+            batches: self.batches,
+            transactions,
+            cents: before,
+            count: NumberOfTransactions(self.count.0 + 1),
+            sum: ControlSum(self.sum.0 + cents.0),
+        }
+    }
+
+    // The open batch joins those before it.
+    pub fn close_batch(self) -> Self
+        requires { ⌜ (self .transactions .0 + self .count .0 < 2 ^ 64) × (self .cents .0 + self .sum .0 < 2 ^ 64) ⌝ }
+        ensures { λ r. ⌜ r ≡ closed self ⌝ }
+    {
+        Tally {
+            batches: self.batches,
+            transactions: NumberOfTransactions(self.transactions.0 + self.count.0),
+            cents: ControlSum(self.cents.0 + self.sum.0),
+            count: NumberOfTransactions(0),
+            sum: ControlSum(0),
+        }
+    }
+
+    // A batch more is begun.
+    pub fn begin_batch(self) -> Self
+        requires { ⌜ self .batches + 1 < 2 ^ 64 ⌝ }
+        ensures { λ r. ⌜ r ≡ begun self ⌝ }
+    {
+        let transactions = self.transactions;
+        let cents = self.cents;
+        let count = self.count;
+        let sum = self.sum;
+        Tally {
+            batches: self.batches + 1,
+            transactions,
+            cents,
+            count,
+            sum,
+        }
+    }
+
+    // The totals of the closed batches, handed back.
+    pub fn hand_back(self) -> Totals
+        ensures { λ r. ⌜ r ≡ totals self ⌝ }
+    {
+        let transactions = self.transactions;
+        let cents = self.cents;
+        Totals {
+            batches: self.batches,
+            transactions,
+            cents,
+        }
+    }
+}

@@ -1,2 +1,0 @@
--- Kept   the state in a row of numbers
-pub mod Kept
