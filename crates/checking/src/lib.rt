@@ -1,5 +1,6 @@
 // The check of a message.
 ghost use lib.Dec.{T};
+ghost use Rattle.marks.specs.Ranks.{ranked};
 ghost use Rattle.tree.specs.Pain008.{Document};
 ghost use Rattle.plan.specs.Held.{holdsElem};
 ghost use Rattle.answer.specs.Said.{said};
@@ -21,7 +22,7 @@ fn pass(
     slips: usize,
     rows: usize,
 ) -> Checked
-    requires { ⌜ T (holdsElem (now t) 0 Document) ⌝ }
+    requires { ⌜ T (holdsElem (now t) 0 Document) × T (ranked (now t)) ⌝ }
     ensures verdict { λ r. ⌜ Verdicts (now (message .entry)) (record { slips = slips; rows = rows }) r ⌝ }
     ensures fills { λ r. ⌜ Fills (now (message .entry)) (now (a .entry)) (now (b .entry)) (now (a .exit)) (now (b .exit)) ⌝ }
 {

@@ -235,11 +235,10 @@ fn spelled(left: u64, text: &[u8]) -> u64
     let mut i = 0;
     while i < text.len() {
         let c = text[i];
-        let n = letter_number(c);
         if is_digit(c) {
-            v = v * 10 + n;
+            v = v * 10 + (wide(c) - 48);
         } else {
-            v = v * 100 + n;
+            v = v * 100 + letter_number(c);
         }
         i += 1;
     }

@@ -1,4 +1,4 @@
--- `reader::walk::read_text` meets its contract: where the text ends, what is heard of it, and its closing tag.
+-- `reader::walk::read_text` meets its contract: the text is heard up to its end, and its closing tag looked for there.
 use Prim.Native.Nat.{ℕ, _-_}
 use native.Mathlib.Omega.{arith}
 use mathlib.Core.Path.{ap, sym, subst, _∙_}
@@ -17,38 +17,33 @@ use Rattle.reader.proofs.walk.read_text.Tie as tie
 number-requires : tie.Need-number-requires
 number-requires c κs = (known-in _ _ (c .before .before .before .pre .known) .row, omega arith)
 
-text-end-requires : tie.Need-text-end-requires
-text-end-requires c κs = c .before .before .before .before .pre .room
-
-text-requires : tie.Need-text-requires
-text-requires c κs =
-    let p = c .before .before .before .before .before .before .pre in
-    let w = run-in inText (c .before .before .before .before .before .before .args .s .now) (c .before .before .before .before .before .before .args .start) _ (p .room) (c .before .text-end .ensures) in
-    (p .long, (w .0, (w .1, subst Plain (sym (c .before .before .number .ensures .0)) (plain-part (c .before .before .before .before .before .before .args .t .now) (c .before .before .before .before .before .before .args .e) (p .known) (c .before .before .before .before .before .before .args .rule) (p .kind)))))
+hear-text-requires : tie.Need-hear-text-requires
+hear-text-requires c κs =
+    let x = c .before .before .before .before .before in
+    let p = x .pre in
+    (p .room, (p .known .ranks, (p .long, subst Plain (sym (c .before .number .ensures .0)) (plain-part (x .args .t .now) (x .args .e) (p .known) (x .args .rule) (p .kind)))))
 
 read-close-requires : tie.Need-read-close-requires
-read-close-requires c κs = let p = c .before .before .before .before .before .before .before .before .before .pre in (p .known, run-in inText (c .before .before .before .before .before .before .before .before .before .args .s .now) (c .before .before .before .before .before .before .before .before .before .args .start) _ (p .room) (c .before .before .before .before .text-end .ensures) .1)
+read-close-requires c κs =
+    let x = c .before .before .before .before .before .before .before .before in
+    (x .pre .known, run-in inText (x .args .s .now) (x .args .start) _ (x .pre .room) (c .before .before .hear-text .ensures .run) .1)
 
 same-length : tie.Need-same-length
 same-length c = search needs
 
 returns : tie.Need-returns
 returns c =
-    let a = c .before .before .before .before .before .before .before .before .before .before .args in
+    let a = c .before .before .before .before .before .before .before .before .before .args in
+    let h = c .before .before .before .hear-text in
     record {
-      end = c .before .before .before .before .before .text-end .result;
-      run = c .before .before .before .before .before .text-end .ensures;
-      said = c .before .before .before .text .ensures ∙ ap (λ (k : ℕ). toldRow (rowOf (a .heard .now)) k (a .start) (c .before .before .before .before .before .text-end .result - a .start) (rules.judged (a .rule) (take (c .before .before .before .before .before .text-end .result - a .start) (drop (a .start) (a .s .now))))) (c .before .before .before .before .before .before .number .ensures .0);
+      end = h .result;
+      run = h .ensures .run;
+      said =
+          h .ensures .said
+          ∙ ap (λ (k : ℕ). toldRow (rowOf (a .heard .now)) k (a .start) (h .result - a .start) (rules.judged (a .rule) (take (h .result - a .start) (drop (a .start) (a .s .now))))) (c .before .before .before .before .before .number .ensures .0);
       close = c .read-close .ensures;
     }
 
 pub read-text-spec : {M : Type 1} → statement M
 read-text-spec =
-    tie.close
-    (tie.spec
-    number-requires
-    text-end-requires
-    text-requires
-    read-close-requires
-    same-length
-    returns)
+    tie.close (tie.spec number-requires hear-text-requires read-close-requires same-length returns)

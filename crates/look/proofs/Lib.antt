@@ -1,0 +1,2 @@
+-- Looks   what a look at a text has seen, in plain variables
+pub mod Looks
