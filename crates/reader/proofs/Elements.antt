@@ -25,9 +25,11 @@ use Rattle.heard.specs.Bounds.{Within, Fit}
 use Rattle.heard.proofs.Bounds.{within-more, within-step}
 use Rattle.events.specs.Events.{Plain}
 use Rattle.events.proofs.Events.{text-step}
-use Rattle.plan.specs.Plan.{rowsEnd, cell, kindOf, openTag}
+use Rattle.plan.specs.declared.Found.the-variants.{Whole}
+use Rattle.plan.specs.Plan.{cell, kindOf, openTag, found}
 use Rattle.plan.specs.Held.{holdsElem, holdsItems, Known}
-use Rattle.plan.proofs.Held.{Held, held, held-none}
+use Rattle.plan.proofs.Finds.{is-whole, whole-in}
+use Rattle.plan.proofs.Held.{Held, held, held-none, known-in, open-some}
 use Rattle.scan.proofs.Scans.{run-in}
 use Rattle.reader.specs.declared.walk.Gone.{Gone}
 use Rattle.reader.specs.declared.walk.Gone.the-variants.{To, Stuck as NotTo}
@@ -58,17 +60,21 @@ module _ (t : Bytes) (e : ℕ) (k : Known t e) (rule : Rule) (q : kindOf (cell t
     transaction = λ m. no-text rule (fit 0 0 0 .transaction m);
   }
 
-  module _ (s : Bytes) (at start : ℕ) (x : Gone) (ns ms : List ℕ) (r : TextRead t s e rule start x ns ms) where
+  -- its opening tag stands at `at`, and its text was read
+  module _ (s : Bytes) (at start : ℕ) (o : found s at (openTag t e) ≡ Whole start) (x : Gone) (ns ms : List ℕ) (r : TextRead t s e rule start x ns ms) where
+    behind : start ≡ at + length (openTag t e)
+    behind = is-whole s at (openTag t e) start o .1
+
     abbrev toldText : Told
     toldText = message.told s (event (cell t e 5) (Text rule) at start (r .end - start))
 
     text-heard : (y : Tally) (sl rw : List ℕ) → step (stateOf ns y sl rw) toldText ≡ stateOf ms y sl rw
     text-heard y sl rw = sym (ap (λ (w : Row). stateWith w y sl rw) (r .said) ∙ text-step (rowOf ns) toldText y sl rw plain-part)
 
-    text-element : (y : Tally) (sl rw : List ℕ) → start ≡ at + length (openTag t e) → (c : Elem) → T (holdsElem t e c) → gone s x (stateOf ms y sl rw) ≡ oneAt t s (stateOf ns y sl rw) c at
+    text-element : (y : Tally) (sl rw : List ℕ) (c : Elem) → T (holdsElem t e c) → gone s x (stateOf ms y sl rw) ≡ oneAt t s (stateOf ns y sl rw) c at
     unfolding stepOf
-    text-element y sl rw b c h =
-        element-read t s e at start (r .end) (cell t e 5) (Text rule) (stateOf ns y sl rw) (stateOf ms y sl rw) (gone s x (stateOf ms y sl rw)) refl (sym q) b (r .run) (text-heard y sl rw) kids c h
+    text-element y sl rw c h =
+        element-read t s e at start (r .end) (cell t e 5) (Text rule) (stateOf ns y sl rw) (stateOf ms y sl rw) (gone s x (stateOf ms y sl rw)) refl (sym q) behind (r .run) (text-heard y sl rw) kids c h
       where
         kids : (d : Elem) → T (holdsElem t e d) → gone s x (stateOf ms y sl rw) ≡ kidsFrom t s (stateOf ms y sl rw) d (r .end)
         kids d u =
@@ -78,22 +84,21 @@ module _ (t : Bytes) (e : ℕ) (k : Known t e) (rule : Rule) (q : kindOf (cell t
             ∙ leaf-kids t s e (r .end) (stateOf ms y sl rw) (held-none t (cell t e 6) (subst (λ (is : Items). T (holdsItems t (cell t e 6) is)) n (g .below))) d u
 
     -- its closing tag does not stand there, or it does
-    pub text-stuck : (y : Tally) (sl rw : List ℕ) (p : ℕ) → start ≡ at + length (openTag t e) → x ≡ NotTo p → (c : Elem) → T (holdsElem t e c) → halts p ≡ oneAt t s (stateOf ns y sl rw) c at
-    text-stuck y sl rw p b o c h = ap (λ (z : Gone). gone s z (stateOf ms y sl rw)) (sym o) ∙ text-element y sl rw b c h
+    pub text-stuck : (y : Tally) (sl rw : List ℕ) (p : ℕ) → x ≡ NotTo p → (c : Elem) → T (holdsElem t e c) → halts p ≡ oneAt t s (stateOf ns y sl rw) c at
+    text-stuck y sl rw p z c h = ap (λ (g : Gone). gone s g (stateOf ms y sl rw)) (sym z) ∙ text-element y sl rw c h
 
-    pub text-ended : (y : Tally) (sl rw : List ℕ) (p : ℕ) → start ≡ at + length (openTag t e) → x ≡ To p → (c : Elem) → T (holdsElem t e c)
+    pub text-ended : (y : Tally) (sl rw : List ℕ) (p : ℕ) → x ≡ To p → (c : Elem) → T (holdsElem t e c)
         → ended p (stateOf ms y sl rw) ≡ oneAt t s (stateOf ns y sl rw) c at
-    text-ended y sl rw p b o c h = ap (λ (z : Gone). gone s z (stateOf ms y sl rw)) (sym o) ∙ text-element y sl rw b c h
+    text-ended y sl rw p z c h = ap (λ (g : Gone). gone s g (stateOf ms y sl rw)) (sym z) ∙ text-element y sl rw c h
 
-    pub text-fine : (y : Tally) (p : ℕ) → at < start → start ≤ length s → Within at (stateOf ns y [] []) → x ≡ To p → (at < p) × ((p ≤ length s) × Within p (stateOf ms y [] []))
-    text-fine y p l m w o =
-        let n : r .end ≤ length s = run-in-text in
-        let c = closed-in t s e (r .end) (r .end) p x k n (r .close) o in
-        let b : start ≤ r .end = omega (arith, r .run) in
-        (omega (arith, c .0), (c .1, within-more (subst (Within start) (text-heard y [] []) (within-step at start (stateOf ns y [] []) toldText w l (told-sane s (event (cell t e 5) (Text rule) at start (r .end - start)) (fit at start (r .end - start))))) (omega (arith, c .0))))
-      where
-        run-in-text : r .end ≤ length s
-        run-in-text = run-in inText s start (r .end) m (r .run) .1
+    pub text-fine : (y : Tally) (p : ℕ) → at ≤ length s → Within at (stateOf ns y [] []) → x ≡ To p → (at < p) × ((p ≤ length s) × Within p (stateOf ms y [] []))
+    text-fine y p m w z =
+        let l : at < start = omega (arith, behind, open-some t e (known-in t e k)) in
+        let u = run-in inText s start (r .end) (whole-in s at (openTag t e) start m o) (r .run) in
+        let c = closed-in t s e (r .end) (r .end) p x k (u .1) (r .close) z in
+        let v = event (cell t e 5) (Text rule) at start (r .end - start) in
+        let b : Within start (stateOf ms y [] []) = subst (Within start) (text-heard y [] []) (within-step at start (stateOf ns y [] []) toldText w l (told-sane s v (fit at start (r .end - start)))) in
+        (omega (arith, u .0, c .0), (c .1, within-more b (omega (arith, u .0, c .0))))
 
 -- an element that holds elements
 module _ (t : Bytes) (e : ℕ) (k : Known t e) (q : kindOf (cell t e 4) ≡ Holds) where
