@@ -1,5 +1,5 @@
 -- WHAT A LOOK AT A TEXT HAS SEEN, in plain variables.
---   least-stop, least-step   a byte of too low a rank, or not, as the loop sees it
+--   ranked-byte              a byte of a rank, as the table has it
 --   plain-text               the bytes of a rank, up to a tag, are the text
 --   seen-identifier, seen-name, seen-remittance   such a text is good by its rule
 --   look-told                what a look that says good tells
@@ -9,8 +9,7 @@ use native.Mathlib.Omega.{arith}
 use mathlib.Core.Bool.{Bool, true, false, not}
 use mathlib.Core.List.{[], _∷_}
 use mathlib.Core.Path.{_≡_, refl, sym, ap, subst, subst⁻¹, _∙_}
-use lib.Dec.{T}
-use borrow.Author.Tests.{lt-leb, le-leb}
+use lib.Dec.{T, leb}
 use lib.ListN.{length, take, drop, getD, length-drop}
 use lib.Seq.{length-take-le, getD-drop}
 use Rattle.laws.specs.Bytes.{Bytes, between, all, span}
@@ -31,17 +30,10 @@ use Rattle.look.specs.declared.Look.{Look}
 use Rattle.look.specs.declared.Look.the-variants.{Good, Unsure}
 use Rattle.look.specs.Look.{textEnd, textTo, Plain, PlainLook, GoodLook}
 
--- ─── a byte, as the loop sees it ───
+-- ─── a byte ───
 
-module _ (t : Bytes) (h : T (ranked t)) (c x least : ℕ) (e : c ≡ x) (l : c < 256) where
-  ranks : getD t c 0 ≡ rank x
-  ranks = rank-at t h c l ∙ ap rank e
-
-  pub least-stop : getD t c 0 < least → atLeast least x ≡ false
-  least-stop k = lt-leb least (rank x) (omega (arith, ranks))
-
-  pub least-step : least ≤ getD t c 0 → atLeast least x ≡ true
-  least-step k = le-leb least (rank x) (omega (arith, ranks))
+pub ranked-byte : (t : Bytes) → T (ranked t) → (k c least : ℕ) → k ≡ c → k < 256 → leb least (getD t k 0) ≡ atLeast least c
+ranked-byte t h k c least e l = ap (leb least) (rank-at t h k l ∙ ap rank e)
 
 -- ─── the bytes of a rank, up to a tag ───
 

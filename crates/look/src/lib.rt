@@ -24,20 +24,52 @@ fn wide(b: u8) -> usize
     b as usize
 }
 
-// Where the bytes end whose rank is `least` at least, from `at` on. The table `t` begins with the ranks of all bytes.
-fn run_end(s: &[u8], t: &[u8], at: usize, least: u8) -> usize
+// A byte whose rank is `least` at least. The table `t` begins with the ranks of all bytes.
+fn is_ranked(t: &[u8], c: u8, least: u8) -> bool
+    requires { ⌜ T (ranked (now t)) ⌝ }
+    ensures { λ r. ⌜ r ≡ atLeast least c ⌝ }
+{
+    let k = wide(c);
+    least <= t[k]
+}
+
+// Where the bytes of a rank that begin at `at` end, byte by byte.
+fn run_rest(s: &[u8], t: &[u8], at: usize, least: u8) -> usize
     requires { ⌜ (at ≤ length (now s)) × T (ranked (now t)) ⌝ }
     ensures { λ r. ⌜ r ≡ at + span (atLeast least) (drop at (now (s .entry))) ⌝ }
 {
     let mut i = at;
     while i < s.len() {
-        let c = wide(s[i]);
-        if t[c] < least {
+        if !is_ranked(t, s[i], least) {
             return i;
         }
         i += 1;
     }
     i
+}
+
+// Where the bytes of a rank that begin at `at` end. Four bytes are looked at in a round, while there are four.
+fn run_end(s: &[u8], t: &[u8], at: usize, least: u8) -> usize
+    requires { ⌜ (at ≤ length (now s)) × T (ranked (now t)) ⌝ }
+    ensures { λ r. ⌜ r ≡ at + span (atLeast least) (drop at (now (s .entry))) ⌝ }
+{
+    let mut i = at;
+    while 4 <= s.len() - i {
+        if !is_ranked(t, s[i], least) {
+            return i;
+        }
+        if !is_ranked(t, s[i + 1], least) {
+            return i + 1;
+        }
+        if !is_ranked(t, s[i + 2], least) {
+            return i + 2;
+        }
+        if !is_ranked(t, s[i + 3], least) {
+            return i + 3;
+        }
+        i += 4;
+    }
+    run_rest(s, t, i, least)
 }
 
 // A look at a text of 1 to `longest` bytes of a rank, up to the next tag.
