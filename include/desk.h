@@ -4,7 +4,7 @@
    docs/PROMISES.md names the theorems, docs/NUMBERS.md has an example of each number.
 
    A pointer goes to as many elements as the length behind it says; it is not null, also where that length is 0.
-   The buffers of one call do not overlap. Nothing is allocated, and nothing is kept between calls; a call needs at most 256 KB of stack. */
+   The buffers of one call do not overlap. Nothing is allocated, and nothing is kept between calls; a call needs at most DESK_STACK bytes of stack. */
 #ifndef DESK_H
 #define DESK_H
 
@@ -23,6 +23,7 @@ extern "C" {
 #define DESK_CEILING 500        /* the highest; the lowest is 1 */
 #define DESK_SLIP 12            /* numbers of a slip */
 #define DESK_ROW 8              /* numbers of a batch row */
+#define DESK_STACK 32768        /* bytes of stack of a call */
 
 /* Tables of these lengths hold every accepted message. An output of DESK_BYTES bytes holds every written one. */
 #define DESK_SLIPS (DESK_SLIP * DESK_TRANSACTIONS)
