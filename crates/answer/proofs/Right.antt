@@ -10,13 +10,14 @@ use mathlib.Core.Option.{Option, none, some}
 use mathlib.Core.Path.{_≡_, refl, ap, _∙_}
 use lib.Dec.{leb}
 use Rattle.profile.specs.Refusals.{Fault}
+use Rattle.profile.specs.Totals.{totals}
 use Rattle.profile.specs.declared.Totals.{Totals}
 use Rattle.tree.specs.Parts as part
 use Rattle.message.specs.declared.Told.{Told}
 use Rattle.message.specs.Message as M
 use Rattle.message.specs.Message.{the, batchesOf, count, sum}
 use Rattle.message.specs.Verdict.{Room, Verdict, verdict, at, first, orElse, unless, differs, batchFault, totalsOf, verdictOf}
-use Rattle.heard.specs.State.{Word, Limit, over, totals, State, shut}
+use Rattle.heard.specs.State.{Word, Limit, over, State, shut}
 use Rattle.heard.specs.Row.{Row}
 use Rattle.heard.specs.Bounds.{Within}
 use Rattle.heard.proofs.Words.{wordOf}

@@ -17,8 +17,10 @@ use lib.ListN.{length, take, drop}
 use Rattle.laws.specs.Bytes.{Bytes}
 use Rattle.profile.specs.Limits.{mostBytes}
 use Rattle.profile.specs.Refusals.{Fault}
+use Rattle.profile.specs.Totals.{freshTally}
 use Rattle.profile.specs.declared.Refusal.{Refusal}
 use Rattle.profile.specs.declared.Refusal.the-variants.{TooLong, NotOfTheForm}
+use Rattle.profile.specs.declared.Tally.{Tally}
 use Rattle.profile.specs.declared.Totals.{Totals}
 use Rattle.tree.specs.declared.Event.{Event}
 use Rattle.tree.specs.Form.{Message, message, messageEvents}
@@ -26,8 +28,7 @@ use Rattle.tree.specs.Pain008.{Document, declaration}
 use Rattle.message.specs.declared.Told.{Told}
 use Rattle.message.specs.Message.{tell, told, batchesOf}
 use Rattle.message.specs.Verdict.{Room, accepted, verdict, first, stages, totalsOf, verdictOf}
-use Rattle.heard.specs.declared.Tally.{Tally}
-use Rattle.heard.specs.State.{State, fresh, step, freshTally}
+use Rattle.heard.specs.State.{State, fresh, step}
 use Rattle.heard.specs.Row.{Row, rowOf, stateOf}
 use Rattle.heard.specs.Bounds.{Within}
 use Rattle.heard.proofs.Fold.{fold}

@@ -7,8 +7,8 @@ ghost use Rattle.answer.specs.Said.{said};
 ghost use Rattle.checked.specs.Check.{Checks};
 ghost use Rattle.checking.specs.Inner.{Verdicts, Fills};
 use answer::Checked;
-use heard::Tally;
 use heard::row;
+use profile::Profile;
 use profile::Refusal;
 use reader::Outcome;
 
@@ -27,7 +27,8 @@ fn pass(
     ensures fills { λ r. ⌜ Fills (now (message .entry)) (now (a .entry)) (now (b .entry)) (now (a .exit)) (now (b .exit)) ⌝ }
 {
     let mut heard = row::fresh();
-    let none = Tally::fresh();
+    let fresh = Profile::fresh();
+    let none = fresh.tally;
     match reader::read(message, t, &mut heard, a, b, none) {
         Outcome::TooLong => Checked::Refused(Refusal::TooLong),
         Outcome::Stuck(place) => Checked::Refused(Refusal::NotOfTheForm(place)),

@@ -18,16 +18,16 @@ use Rattle.laws.specs.Put.{putAt}
 use Rattle.laws.proofs.Puts.{put-two, put-append, put-back, put-all, length-put}
 use Rattle.profile.specs.Limits.{mostBytes}
 use Rattle.profile.specs.Refusals.{Fault, fault}
-use Rattle.profile.specs.Totals.{countDiffers, sumDiffers}
+use Rattle.profile.specs.Totals.{countDiffers, sumDiffers, withTransaction}
 use Rattle.profile.specs.declared.DeclaredCount.{DeclaredCount}
 use Rattle.profile.specs.declared.DeclaredCount.the-variants.{Count, Absent as NoCount}
 use Rattle.profile.specs.declared.DeclaredSum.{DeclaredSum}
 use Rattle.profile.specs.declared.DeclaredSum.the-variants.{Cents, Absent as NoSum}
 use Rattle.profile.specs.declared.Batch.{Batch}
+use Rattle.profile.specs.declared.Tally.{Tally}
 use Rattle.tree.specs.Parts as part
 use Rattle.message.specs.Verdict.{orElse}
-use Rattle.heard.specs.declared.Tally.{Tally}
-use Rattle.heard.specs.State.{ifAny, Word, withTransaction, countOf, sumOf, batchFrom, faultIn, declaredParts, rowNumbers, putIf, slipParts, slipNumbers, settledTally, settledSlips}
+use Rattle.heard.specs.State.{ifAny, Word, countOf, sumOf, batchFrom, faultIn, declaredParts, rowNumbers, putIf, slipParts, slipNumbers, settledTally, settledSlips}
 use Rattle.heard.specs.Row.{Row, rowOf, stateOf, withFault}
 use Rattle.heard.specs.Bounds.{Within}
 use Rattle.events.proofs.Columns.{columns}

@@ -19,7 +19,9 @@ use lib.Dec.{eqb, ltb}
 use Rattle.laws.proofs.Tests.{eqb-cases, ltb-cases}
 use Rattle.profile.specs.Limits.{mostBytes}
 use Rattle.profile.specs.Refusals.{Fault, flawed}
+use Rattle.profile.specs.Totals.{closed, begun, totals}
 use Rattle.profile.specs.declared.Flaw.{Flaw}
+use Rattle.profile.specs.declared.Tally.{Tally}
 use Rattle.profile.specs.declared.Totals.{Totals}
 use Rattle.text.specs.declared.Judged.{Judged}
 use Rattle.text.specs.declared.Judged.the-variants.{Good, Bad}
@@ -27,8 +29,7 @@ use Rattle.text.specs.Rules as rules
 use Rattle.tree.specs.Parts as part
 use Rattle.message.specs.declared.Told.{Told}
 use Rattle.message.specs.Verdict.{orElse, broken}
-use Rattle.heard.specs.declared.Tally.{Tally}
-use Rattle.heard.specs.State.{pick, ifAny, Word, nothing, opens, Limit, fewer, closed, begun, totals, faultFrom, putIf, rowNumbers, State, settledTally, settledSlips, shut, added, began, saying, inside, step}
+use Rattle.heard.specs.State.{pick, ifAny, Word, nothing, opens, Limit, fewer, faultFrom, putIf, rowNumbers, State, settledTally, settledSlips, shut, added, began, saying, inside, step}
 use Rattle.heard.specs.Row.{Row, rowOf, stateOf, stateWith, withSaid, withoutFrom, withBad, withFault, withBatch, withTransaction}
 use Rattle.heard.specs.Bounds.{Within}
 use Rattle.heard.proofs.Bounds.{Small, settled-small}

@@ -6,13 +6,14 @@
 use Prim.Native.Nat.{ℕ, _-_, _*_, _<_}
 use mathlib.Core.List.{List}
 use mathlib.Core.Path.{_≡_}
+use Rattle.profile.specs.Totals.{totals}
+use Rattle.profile.specs.declared.Tally.{Tally}
 use Rattle.profile.specs.declared.Totals.{Totals}
 use Rattle.text.specs.declared.Judged.{Judged}
 use Rattle.text.specs.Rules as rules
 use Rattle.tree.specs.Parts as part
 use Rattle.message.specs.Verdict.{broken}
-use Rattle.heard.specs.declared.Tally.{Tally}
-use Rattle.heard.specs.State.{ifAny, faultFrom, putIf, rowNumbers, totals, State, shut}
+use Rattle.heard.specs.State.{ifAny, faultFrom, putIf, rowNumbers, State, shut}
 use Rattle.heard.specs.Row.{Row, withSaid, withBad, withFault}
 use Rattle.tree.specs.Parts.{partsEnd}
 

@@ -15,14 +15,14 @@ use lib.Dec.{eqb, ltb}
 use lib.ListN.{length}
 use Rattle.laws.specs.Lists.{total}
 use Rattle.profile.specs.Refusals.{Fault, fault}
-use Rattle.profile.specs.Totals.{countDiffers, sumDiffers}
+use Rattle.profile.specs.Totals.{countDiffers, sumDiffers, withTransaction, closed, begun}
+use Rattle.profile.specs.declared.Tally.{Tally}
 use Rattle.tree.specs.Parts as part
 use Rattle.message.specs.declared.Told.{Told}
 use Rattle.message.specs.Message as M
 use Rattle.message.specs.Message.{is, before, parts, transactionOf, batchOf, centsOf, count, sum}
 use Rattle.message.specs.Verdict.{orElse, at, unless, differs, batchFault, span, declared, slip, row}
-use Rattle.heard.specs.declared.Tally.{Tally}
-use Rattle.heard.specs.State.{pick, ifAny, Word, nothing, opens, withTransaction, closed, begun, countOf, sumOf, batchFrom, faultIn, faultFrom, putIf, slipNumbers, rowNumbers, State, settledTally, settledSlips, shut, added, began, saying, inside}
+use Rattle.heard.specs.State.{pick, ifAny, Word, nothing, opens, countOf, sumOf, batchFrom, faultIn, faultFrom, putIf, slipNumbers, rowNumbers, State, settledTally, settledSlips, shut, added, began, saying, inside}
 use Rattle.heard.proofs.Fold.{by-bool, fold, stays, none-before, turn, run, sections, run-view}
 use Rattle.heard.proofs.Words.{wordOf, saying-word, inside-word, saying-mark, span-word, declared-word, worth-word}
 

@@ -9,11 +9,12 @@ use mathlib.Core.List.{List}
 use mathlib.Core.Path.{_≡_, refl}
 use borrow.Author.Tests.{eqb-true}
 use Rattle.profile.specs.Limits.{mostCents}
+use Rattle.profile.specs.Totals.{withTransaction}
+use Rattle.profile.specs.declared.Tally.{Tally}
 use Rattle.tree.specs.Parts as part
 use Rattle.message.specs.declared.Told.{Told}
 use Rattle.message.specs.Message.{is, worth}
-use Rattle.heard.specs.declared.Tally.{Tally}
-use Rattle.heard.specs.State.{pick, ifAny, Word, word, withTransaction, State, fresh, settledTally, shut, added, began, saying, inside, step}
+use Rattle.heard.specs.State.{pick, ifAny, Word, word, State, fresh, settledTally, shut, added, began, saying, inside, step}
 use Rattle.heard.specs.Bounds.{Within, Sane}
 use Rattle.heard.proofs.Fold.{by-bool}
 

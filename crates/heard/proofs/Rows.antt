@@ -22,8 +22,9 @@ use Rattle.laws.proofs.Puts.{get-before, get-behind, get-in, put-nil, put-one, 
 use Rattle.laws.proofs.Below.{every, below}
 use Rattle.laws.proofs.Tests.{eqb-cases, ltb-cases, and-l, and-r}
 use Rattle.profile.specs.Refusals.{Fault, fault}
+use Rattle.profile.specs.Totals.{freshTally}
 use Rattle.message.specs.Verdict.{orElse}
-use Rattle.heard.specs.State.{pick, ifAny, Word, nothing, Limit, fewer, freshTally, fresh}
+use Rattle.heard.specs.State.{pick, ifAny, Word, nothing, Limit, fewer, fresh}
 use Rattle.heard.specs.Row.{heardLength, flawSlot, batchesSlot, transactionsSlot, faultSlot, wordAt, wordsIn, limitAt, badIn, faultAt, Row, rowOf, stateOf, counted, withSaid, withoutFrom, withBad, withFault, withBatch, withTransaction}
 use Rattle.tree.specs.Parts.{partsEnd}
 

@@ -14,9 +14,9 @@ use Rattle.laws.specs.Put.{putAt}
 use Rattle.profile.specs.Refusals.{Fault, fault, flawed}
 use Rattle.profile.specs.declared.Flaw.{Flaw}
 use Rattle.profile.specs.declared.Flaw.the-variants.{Length, Letter, Slash, Number, Date, Code, Shape, CheckDigits}
+use Rattle.profile.specs.declared.Tally.{Tally}
 use Rattle.tree.specs.Parts.{partsEnd}
 use Rattle.message.specs.Verdict.{orElse}
-use Rattle.heard.specs.declared.Tally.{Tally}
 use Rattle.heard.specs.State.{pick, ifAny, Word, nothing, Limit, fewer, State}
 
 abbrev pub flawSlot : ℕ

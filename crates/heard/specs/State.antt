@@ -2,7 +2,6 @@
 --   pick z a b, ifAny k a b   a where the test z holds, or k is not 0; else b
 --   Word, nothing, word t     what a part last said: 1, its text's start and length, and the number that it tells; all 0 where it said nothing
 --   Limit, limitStep n l t    how many elements of the part n may still come before one is too many, and the place of the last one
---   withTransaction, closed, begun, totals   the tally with one transaction more, with its open batch closed, with one batch more; what it hands back
 --   State                     what was said, part by part; first faults; the tally; the two lent tables
 --   settled, shut st          the open transaction added; the open batch closed too
 --   added, began, saying      the three things that an event does: it begins a transaction, or a batch, and its text says something
@@ -17,19 +16,17 @@ use Rattle.laws.specs.Lists.{gather}
 use Rattle.laws.specs.Put.{putAt}
 use Rattle.profile.specs.Limits.{mostBatches, mostTransactions}
 use Rattle.profile.specs.Refusals.{Fault, fault}
-use Rattle.profile.specs.Totals.{countDiffers, sumDiffers}
-use Rattle.profile.specs.declared.ControlSum.{ControlSum}
+use Rattle.profile.specs.Totals.{countDiffers, sumDiffers, freshTally, withTransaction, closed, begun}
 use Rattle.profile.specs.declared.DeclaredCount.{DeclaredCount}
 use Rattle.profile.specs.declared.DeclaredCount.the-variants.{Count, Absent as NoCount}
 use Rattle.profile.specs.declared.DeclaredSum.{DeclaredSum}
 use Rattle.profile.specs.declared.DeclaredSum.the-variants.{Cents, Absent as NoSum}
 use Rattle.profile.specs.declared.Batch.{Batch}
-use Rattle.profile.specs.declared.Totals.{Totals}
+use Rattle.profile.specs.declared.Tally.{Tally}
 use Rattle.tree.specs.Parts as part
 use Rattle.message.specs.declared.Told.{Told}
 use Rattle.message.specs.Message.{is, worth}
 use Rattle.message.specs.Verdict.{orElse, broken}
-use Rattle.heard.specs.declared.Tally.{Tally}
 
 abbrev pub pick : {A : Type 0} → Bool → A → A → A
 pick true a b = a
@@ -75,36 +72,7 @@ abbrev pub over : ℕ → ℕ → Option ℕ
 over zero p = some p
 over (suc k) p = none
 
--- ─── 3. The tally ───
-
-abbrev pub freshTally : Tally
-freshTally = record { batches = 0; transactions = record { 0 = 0 }; cents = record { 0 = 0 }; count = record { 0 = 0 }; sum = record { 0 = 0 } }
-
-abbrev pub withTransaction : Tally → ControlSum → Tally
-withTransaction y c = record {
-  batches = y .batches;
-  transactions = y .transactions;
-  cents = y .cents;
-  count = record { 0 = y .count .0 + 1 };
-  sum = record { 0 = y .sum .0 + c .0 };
-}
-
-abbrev pub closed : Tally → Tally
-closed y = record {
-  batches = y .batches;
-  transactions = record { 0 = y .transactions .0 + y .count .0 };
-  cents = record { 0 = y .cents .0 + y .sum .0 };
-  count = record { 0 = 0 };
-  sum = record { 0 = 0 };
-}
-
-abbrev pub begun : Tally → Tally
-begun y = record { batches = suc (y .batches); transactions = y .transactions; cents = y .cents; count = y .count; sum = y .sum }
-
-abbrev pub totals : Tally → Totals
-totals y = record { batches = y .batches; transactions = y .transactions; cents = y .cents }
-
--- ─── 4. A batch that ends ───
+-- ─── 3. A batch that ends ───
 
 abbrev pub countOf : Word → DeclaredCount
 countOf w = ifAny (w .mark) (Count (record { 0 = w .worth })) NoCount
@@ -122,7 +90,7 @@ faultIn b p q = pick (countDiffers (b .«declared_count») (b .count)) (some (fa
 abbrev pub faultFrom : (ℕ → Word) → Tally → Option Fault
 faultFrom said y = faultIn (batchFrom said y) (said part.batchCount .start) (said part.batchSum .start)
 
--- ─── 5. The rows ───
+-- ─── 4. The rows ───
 
 -- n numbers put at a place, where there is room
 abbrev pub putIf : List ℕ → ℕ → ℕ → List ℕ → List ℕ
@@ -144,7 +112,7 @@ rowNumbers said y =
     y .transactions .0 ∷ y .count .0 ∷ y .sum .0
     ∷ (gather (λ p. said p .mark ∷ said p .worth ∷ []) declaredParts ++ ((4 * said part.scheme .worth + said part.sequence .worth) ∷ []))
 
--- ─── 6. The state ───
+-- ─── 5. The state ───
 
 pub record State : Type 0 where
   pub said : ℕ → Word

@@ -3,7 +3,7 @@ ghost use mathlib.Core.Path.{_≡_};
 ghost use Prim.Native.Nat.{_+_, _^_, _<_};
 ghost use Rattle.profile.specs.Limits.{limits};
 ghost use Rattle.profile.specs.Refusals.{numberOf, placeOf, listNumberOf, listPlaceOf};
-ghost use Rattle.profile.specs.Totals.{countDiffers, sumDiffers, freshBatch, freshTally, withTransaction, closed, totals};
+ghost use Rattle.profile.specs.Totals.{countDiffers, sumDiffers, freshTally, withTransaction, closed, begun, totals};
 
 // ─── the quantities ───
 
@@ -55,20 +55,6 @@ pub struct Batch {
     pub declared_sum: DeclaredSum,
 }
 
-impl Batch {
-    // A batch of which nothing was read.
-    pub fn fresh() -> Self
-        ensures { λ r. ⌜ r ≡ freshBatch ⌝ }
-    {
-        Batch {
-            count: NumberOfTransactions(0),
-            sum: ControlSum(0),
-            declared_count: DeclaredCount::Absent,
-            declared_sum: DeclaredSum::Absent,
-        }
-    }
-}
-
 // What an accepted message answers: its batches, transactions and cents.
 pub struct Totals {
     pub batches: u64,
@@ -76,48 +62,74 @@ pub struct Totals {
     pub cents: ControlSum,
 }
 
-// The totals of the batches that are closed, and the batch that is open.
+// The running tally: the batches that were begun, the transactions and cents of those before the open one, and its own count and cents.
 pub struct Tally {
-    pub closed: Totals,
-    pub batch: Batch,
+    pub batches: u64,
+    pub transactions: NumberOfTransactions,
+    pub cents: ControlSum,
+    pub count: NumberOfTransactions,
+    pub sum: ControlSum,
 }
 
 impl Tally {
-    // One transaction more in the open batch.
-    pub fn add_transaction(self, cents: ControlSum) -> Self
-        requires { ⌜ (self .batch .count .0 + 1 < 2 ^ 64) × (self .batch .sum .0 + cents .0 < 2 ^ 64) ⌝ }
-        ensures { λ r. ⌜ r ≡ withTransaction self cents ⌝ }
+    // Nothing was read.
+    pub fn fresh() -> Self
+        ensures { λ r. ⌜ r ≡ freshTally ⌝ }
     {
-        let closed = self.closed;
-        let batch = self.batch;
-        let declared_count = batch.declared_count;
-        let declared_sum = batch.declared_sum;
         Tally {
-            closed,
-            batch: Batch {
-                count: NumberOfTransactions(batch.count.0 + 1),
-                sum: ControlSum(batch.sum.0 + cents.0),
-                declared_count,
-                declared_sum,
-            },
+            batches: 0,
+            transactions: NumberOfTransactions(0),
+            cents: ControlSum(0),
+            count: NumberOfTransactions(0),
+            sum: ControlSum(0),
         }
     }
 
-    // The open batch joins the totals, and a fresh one is open.
+    // One transaction more in the open batch.
+    pub fn add_transaction(self, cents: ControlSum) -> Self
+        requires { ⌜ (self .count .0 + 1 < 2 ^ 64) × (self .sum .0 + cents .0 < 2 ^ 64) ⌝ }
+        ensures { λ r. ⌜ r ≡ withTransaction self cents ⌝ }
+    {
+        let transactions = self.transactions;
+        let before = self.cents;
+        Tally {
+            batches: self.batches,
+            transactions,
+            cents: before,
+            count: NumberOfTransactions(self.count.0 + 1),
+            sum: ControlSum(self.sum.0 + cents.0),
+        }
+    }
+
+    // The open batch joins those before it.
     pub fn close_batch(self) -> Self
-        requires { ⌜ (self .closed .batches + 1 < 2 ^ 64) × (self .closed .transactions .0 + self .batch .count .0 < 2 ^ 64) × (self .closed .cents .0 + self .batch .sum .0 < 2 ^ 64) ⌝ }
+        requires { ⌜ (self .transactions .0 + self .count .0 < 2 ^ 64) × (self .cents .0 + self .sum .0 < 2 ^ 64) ⌝ }
         ensures { λ r. ⌜ r ≡ closed self ⌝ }
     {
-        let before = self.closed;
-        let ended = self.batch;
-        let batch = Batch::fresh();
         Tally {
-            closed: Totals {
-                batches: before.batches + 1,
-                transactions: NumberOfTransactions(before.transactions.0 + ended.count.0),
-                cents: ControlSum(before.cents.0 + ended.sum.0),
-            },
-            batch,
+            batches: self.batches,
+            transactions: NumberOfTransactions(self.transactions.0 + self.count.0),
+            cents: ControlSum(self.cents.0 + self.sum.0),
+            count: NumberOfTransactions(0),
+            sum: ControlSum(0),
+        }
+    }
+
+    // A batch more is begun.
+    pub fn begin_batch(self) -> Self
+        requires { ⌜ self .batches + 1 < 2 ^ 64 ⌝ }
+        ensures { λ r. ⌜ r ≡ begun self ⌝ }
+    {
+        let transactions = self.transactions;
+        let cents = self.cents;
+        let count = self.count;
+        let sum = self.sum;
+        Tally {
+            batches: self.batches + 1,
+            transactions,
+            cents,
+            count,
+            sum,
         }
     }
 
@@ -125,7 +137,13 @@ impl Tally {
     pub fn hand_back(self) -> Totals
         ensures { λ r. ⌜ r ≡ totals self ⌝ }
     {
-        self.closed
+        let transactions = self.transactions;
+        let cents = self.cents;
+        Totals {
+            batches: self.batches,
+            transactions,
+            cents,
+        }
     }
 }
 
@@ -198,17 +216,8 @@ impl Profile {
     pub fn fresh() -> Self
         ensures { λ r. ⌜ r .tally ≡ freshTally ⌝ }
     {
-        let batch = Batch::fresh();
-        Profile {
-            tally: Tally {
-                closed: Totals {
-                    batches: 0,
-                    transactions: NumberOfTransactions(0),
-                    cents: ControlSum(0),
-                },
-                batch,
-            },
-        }
+        let tally = Tally::fresh();
+        Profile { tally }
     }
 }
 

@@ -18,7 +18,7 @@ use Rattle.tree.specs.Parts.{partsEnd}
 use Rattle.tree.specs.Form.{Elem, Items, none, event, items, white, inText}
 use Rattle.message.specs.declared.Told.{Told}
 use Rattle.message.specs.Message as message
-use Rattle.heard.specs.declared.Tally.{Tally}
+use Rattle.profile.specs.declared.Tally.{Tally}
 use Rattle.heard.specs.State.{step}
 use Rattle.heard.specs.Row.{Row, rowOf, stateOf, stateWith}
 use Rattle.heard.specs.Bounds.{Within, Fit}

@@ -2,8 +2,8 @@
 use native.Mathlib.Numerals.{add-one}
 use mathlib.Core.Path.{refl}
 use borrow.Author.Needs.{needs}
-use Rattle.heard.proofs.Tally.begin_batch.Statement.{statement}
-use Rattle.heard.proofs.Tally.begin_batch.Tie as tie
+use Rattle.profile.proofs.Tally.begin_batch.Statement.{statement}
+use Rattle.profile.proofs.Tally.begin_batch.Tie as tie
 
 add-t6 : tie.Need-add-t6
 add-t6 c = search needs
