@@ -2,15 +2,16 @@
 --   over-yes, over-no         the element that is one too many
 --   above, flaw-late, text-none, text-some   the first text that breaks its rule
 --   batch-none, batch-count, batch-sum   the first batch that differs
---   absent, same, other       a declaration of the header
+--   same, other               a declaration of the header
 --   room-yes, room-no         a table with room, and one that is too short
 --   answered                  the whole answer
 use Prim.Native.Nat.{ℕ, zero, suc, _+_, _-_, _*_, _≤_, _<_}
 use native.Mathlib.Omega.{arith}
+use mathlib.Core.Bool.{Bool, true, false}
 use mathlib.Core.List.{List, [], _∷_}
 use mathlib.Core.Option.{Option, none, some}
 use mathlib.Core.Path.{_≡_, refl, ap, sym, _∙_}
-use borrow.Author.Tests.{le-leb, lt-leb, eq-eqb, ne-eqb}
+use borrow.Author.Tests.{le-leb, lt-leb, ne-eqb}
 use lib.Dec.{leb}
 use lib.ListN.{getD}
 use Rattle.profile.specs.declared.Flaw.{Flaw}
@@ -18,10 +19,10 @@ use Rattle.profile.specs.declared.Flaw.the-variants.{CheckDigits}
 use Rattle.profile.specs.declared.Totals.{Totals}
 use Rattle.profile.specs.Refusals.{Fault, fault, flawed}
 use Rattle.tree.specs.Parts as part
-use Rattle.message.specs.Verdict.{Verdict, verdict, at, first, orElse, unless}
-use Rattle.heard.specs.State.{Word, over}
-use Rattle.heard.specs.Row.{flawSlot, batchesSlot, transactionsSlot, faultSlot, flaws, badIn, faultAt, wordAt, rowOf}
-use Rattle.answer.specs.Answer.{batchFound, differsIn, answer}
+use Rattle.message.specs.Verdict.{Verdict, verdict, at, orElse, unless}
+use Rattle.heard.specs.State.{when, over}
+use Rattle.heard.specs.Row.{flawSlot, batchesSlot, transactionsSlot, faultSlot, flaws, badIn, faultAt, rowOf}
+use Rattle.answer.specs.Answer.{batchFound, countFound, sumFound, answer}
 
 -- ─── what each arm finds ───
 
@@ -75,23 +76,13 @@ module _ (n p : ℕ) where
       go zero h g = absurd (h refl)
       go (suc n) h g = rw (ne-eqb (suc n) 6 g) refl
 
-module _ (i : ℕ) (w : Word) (m x n : ℕ) (e : m ≡ w .mark) where
-  pub absent : m ≡ 0 → none ≡ at i (differsIn w n)
-  absent h = rw (sym e ∙ h) refl
+-- z is whether the declaration differs, and p where its text starts
+module _ (i p : ℕ) (z b : Bool) (e : z ≡ b) where
+  pub same : z ≡ false → none ≡ at i (when b p)
+  same h = rw (sym e ∙ h) refl
 
-  pub same : x ≡ w .worth → x ≡ n → none ≡ at i (differsIn w n)
-  same f h = go (w .mark)
-    where
-      go : (k : ℕ) → none ≡ at i (differsIn (record { mark = k; start = w .start; length = w .length; worth = w .worth }) n)
-      go zero = refl
-      go (suc k) = rw (eq-eqb (w .worth) n (sym f ∙ h)) refl
-
-  pub other : (p : ℕ) → (m ≡ 0 → ⊥) → x ≡ w .worth → (x ≡ n → ⊥) → p ≡ w .start → some (fault i p) ≡ at i (differsIn w n)
-  other p h f g s = ap (λ (k : ℕ). some (fault i k)) s ∙ go (w .mark) (λ z. h (e ∙ z))
-    where
-      go : (k : ℕ) → (k ≡ 0 → ⊥) → some (fault i (w .start)) ≡ at i (differsIn (record { mark = k; start = w .start; length = w .length; worth = w .worth }) n)
-      go zero h = absurd (h refl)
-      go (suc k) h = rw (ne-eqb (w .worth) n (λ z. g (f ∙ z))) refl
+  pub other : z ≡ true → (q : ℕ) → q ≡ p → some (fault i q) ≡ at i (when b p)
+  other h q f = ap (λ (k : ℕ). some (fault i k)) f ∙ rw (sym e ∙ h) refl
 
 module _ (n a room : ℕ) where
   pub room-yes : a ≤ room → none ≡ at n (unless (leb a room) a)
@@ -112,7 +103,7 @@ two e f g = rw (e, f, g) refl
 pub answered : (ns : List ℕ) (y : Totals) (slips rows : ℕ) {o : Verdict} {a b c d e f g h j k l m p q all : Option Fault}
     → a ≡ at 3 (over (getD ns batchesSlot 0) (getD ns (batchesSlot + 1) 0)) → b ≡ at 4 (over (getD ns transactionsSlot 0) (getD ns (transactionsSlot + 1) 0))
     → c ≡ badIn (getD ns flawSlot 0) (getD ns (flawSlot + 1) 0) → d ≡ batchFound (faultAt (getD ns faultSlot 0) (getD ns (faultSlot + 1) 0))
-    → e ≡ at 8 (differsIn (wordAt ns part.messageCount) (y .transactions .0)) → f ≡ at 9 (differsIn (wordAt ns part.messageSum) (y .cents .0))
+    → e ≡ countFound (rowOf ns .said part.messageCount) (y .transactions) → f ≡ sumFound (rowOf ns .said part.messageSum) (y .cents)
     → g ≡ at 10 (unless (leb (12 * y .transactions .0) slips) (12 * y .transactions .0)) → h ≡ at 11 (unless (leb (8 * y .batches) rows) (8 * y .batches))
     → j ≡ orElse g h → k ≡ orElse f j → l ≡ orElse e k → m ≡ orElse d l → p ≡ orElse c m → q ≡ orElse b p → all ≡ orElse a q
     → o ≡ verdict all y → o ≡ answer (record { slips = slips; rows = rows }) (rowOf ns) y

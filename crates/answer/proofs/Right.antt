@@ -1,6 +1,5 @@
 -- THE ANSWER IS THE VERDICT, for every list of events.
 --   batch-found      the first fault of a batch is of its count or its sum
---   differs-word     a declaration in numbers differs where its text does
 --   totals-small     the totals are small enough for the answer
 --   verdict-right    THE THEOREM
 use Prim.Native.Nat.{ℕ, _+_, _*_, _≤_}
@@ -10,20 +9,20 @@ use mathlib.Core.Option.{Option, none, some}
 use mathlib.Core.Path.{_≡_, refl, ap, _∙_}
 use lib.Dec.{leb}
 use Rattle.profile.specs.Refusals.{Fault}
-use Rattle.profile.specs.Totals.{totals}
+use Rattle.profile.specs.Totals.{countDiffers, sumDiffers, totals}
 use Rattle.profile.specs.declared.Totals.{Totals}
 use Rattle.tree.specs.Parts as part
 use Rattle.message.specs.declared.Told.{Told}
 use Rattle.message.specs.Message as M
 use Rattle.message.specs.Message.{the, batchesOf, count, sum}
 use Rattle.message.specs.Verdict.{Room, Verdict, verdict, at, first, orElse, unless, differs, batchFault, totalsOf, verdictOf}
-use Rattle.heard.specs.State.{Word, Limit, over, State, shut}
+use Rattle.heard.specs.State.{when, Word, Limit, over, countOf, sumOf, State, shut}
 use Rattle.heard.specs.Row.{Row}
 use Rattle.heard.specs.Bounds.{Within}
-use Rattle.heard.proofs.Words.{wordOf}
+use Rattle.heard.proofs.Words.{wordOf, count-word, sum-word}
 use Rattle.heard.proofs.Right.{heard, totals-right, fault-right, bad-right, batches-right, transactions-right, count-right, sum-right}
 use Rattle.heard.proofs.Bounds.{settled-small}
-use Rattle.answer.specs.Answer.{batchFound, differsIn, answer}
+use Rattle.answer.specs.Answer.{batchFound, answer}
 
 found-or : (a b : Option Fault) → batchFound a ≡ a → batchFound b ≡ b → batchFound (orElse a b) ≡ orElse a b
 found-or none b e f = f
@@ -37,10 +36,6 @@ batch-found (b ∷ bs) = found-or (batchFault b) (first (map batchFault bs)) (on
     one none none = refl
     one none (some q) = refl
     one (some p) q = refl
-
-differs-word : (o : Option Told) (n : ℕ) → differsIn (wordOf o) n ≡ differs o n
-differs-word none n = refl
-differs-word (some t) n = refl
 
 pub totals-small : (p : ℕ) (st : State) (y : Totals) → Within p st → y ≡ totals (shut st .tally) → (y .transactions .0 ≤ p + 1) × (y .batches ≤ p + 1)
 totals-small p st y w e =
@@ -75,9 +70,11 @@ module _ (slips rows : List ℕ) (ts : List Told) (w : Row) (y : Totals) where
       (ap (λ (l : Limit). over (l .left) (l .place)) transactions ∙ transactions-right slips rows ts)
       (bad ∙ bad-right slips rows ts)
       (ap batchFound (fault ∙ fault-right slips rows ts) ∙ batch-found (batchesOf ts))
-      (header part.messageCount (y .transactions .0) (count-right slips rows ts) ∙ ap (λ (z : Totals). differs (the part.messageCount ts) (z .transactions .0)) e)
-      (header part.messageSum (y .cents .0) (sum-right slips rows ts) ∙ ap (λ (z : Totals). differs (the part.messageSum ts) (z .cents .0)) e)
+      (header part.messageCount (λ v. when (countDiffers (countOf v) (y .transactions)) (v .start)) (count-right slips rows ts) ∙ count-word (the part.messageCount ts) (y .transactions)
+      ∙ ap (λ (z : Totals). differs (the part.messageCount ts) (z .transactions .0)) e)
+      (header part.messageSum (λ v. when (sumDiffers (sumOf v) (y .cents)) (v .start)) (sum-right slips rows ts) ∙ sum-word (the part.messageSum ts) (y .cents)
+      ∙ ap (λ (z : Totals). differs (the part.messageSum ts) (z .cents .0)) e)
       e
     where
-      header : (p n : ℕ) → st .said p ≡ wordOf (the p ts) → differsIn (w .said p) n ≡ differs (the p ts) n
-      header p n h = ap (λ (v : ℕ → Word). differsIn (v p) n) said ∙ ap (λ (v : Word). differsIn v n) h ∙ differs-word (the p ts) n
+      header : (p : ℕ) (f : Word → Option ℕ) → st .said p ≡ wordOf (the p ts) → f (w .said p) ≡ f (wordOf (the p ts))
+      header p f h = ap (λ (v : ℕ → Word). f (v p)) said ∙ ap f h

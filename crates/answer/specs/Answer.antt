@@ -1,17 +1,20 @@
 -- WHAT IS ANSWERED behind the last event, as the code says it, of the row w and the totals y. Executable; that it is the verdict is proofs/Right.
 --   batchFound f     the first fault of a batch: of its count, else of its sum
---   differsIn w n    the start of a declaration that tells another number than n
+--   countFound w n, sumFound w c   the header's count, and its sum, where they are declared and differ
 --   answer r w y     what is answered where r is the room of the tables
 --   found            what a stage of the code says
-use Prim.Native.Nat.{ℕ, _*_}
+use Prim.Native.Nat.{_*_}
 use mathlib.Core.List.{[], _∷_}
 use mathlib.Core.Option.{Option, none, some}
 use lib.Dec.{eqb, leb}
+use Rattle.profile.specs.declared.NumberOfTransactions.{NumberOfTransactions}
+use Rattle.profile.specs.declared.ControlSum.{ControlSum}
 use Rattle.profile.specs.declared.Totals.{Totals}
 use Rattle.profile.specs.Refusals.{Fault, fault, faultOf}
+use Rattle.profile.specs.Totals.{countDiffers, sumDiffers}
 use Rattle.tree.specs.Parts as part
 use Rattle.message.specs.Verdict.{Room, Verdict, verdict, at, first, unless}
-use Rattle.heard.specs.State.{pick, ifAny, Word, over}
+use Rattle.heard.specs.State.{pick, when, Word, over, countOf, sumOf}
 use Rattle.heard.specs.Row.{Row}
 use Rattle.answer.specs.declared.Stage.{Stage}
 use Rattle.answer.specs.declared.Stage.the-variants.{Passed, Refused as Stopped}
@@ -20,8 +23,11 @@ abbrev pub batchFound : Option Fault → Option Fault
 batchFound none = none
 batchFound (some f) = some (fault (pick (eqb (f .number) 6) 6 7) (f .place))
 
-abbrev pub differsIn : Word → ℕ → Option ℕ
-differsIn w n = ifAny (w .mark) (unless (eqb (w .worth) n) (w .start)) none
+abbrev pub countFound : Word → NumberOfTransactions → Option Fault
+countFound w n = at 8 (when (countDiffers (countOf w) n) (w .start))
+
+abbrev pub sumFound : Word → ControlSum → Option Fault
+sumFound w c = at 9 (when (sumDiffers (sumOf w) c) (w .start))
 
 abbrev pub answer : Room → Row → Totals → Verdict
 answer r w y =
@@ -30,8 +36,8 @@ answer r w y =
     ∷ at 4 (over (w .transactions .left) (w .transactions .place))
     ∷ w .bad
     ∷ batchFound (w .fault)
-    ∷ at 8 (differsIn (w .said part.messageCount) (y .transactions .0))
-    ∷ at 9 (differsIn (w .said part.messageSum) (y .cents .0))
+    ∷ countFound (w .said part.messageCount) (y .transactions)
+    ∷ sumFound (w .said part.messageSum) (y .cents)
     ∷ at 10 (unless (leb (12 * y .transactions .0) (r .slips)) (12 * y .transactions .0))
     ∷ at 11 (unless (leb (8 * y .batches) (r .rows)) (8 * y .batches))
     ∷ []))

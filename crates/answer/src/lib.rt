@@ -6,10 +6,10 @@ ghost use lib.ListN.{length, getD};
 ghost use Rattle.profile.specs.Limits.{mostBytes};
 ghost use Rattle.profile.specs.declared.Flaw.the-variants.{CheckDigits};
 ghost use Rattle.tree.specs.Parts as part;
-ghost use Rattle.message.specs.Verdict.{verdict, at, first, orElse, unless};
+ghost use Rattle.message.specs.Verdict.{verdict, at, orElse, unless};
 ghost use Rattle.heard.specs.State.{over};
-ghost use Rattle.heard.specs.Row.{heardLength, flawSlot, batchesSlot, transactionsSlot, faultSlot, flaws, badIn, faultAt, wordAt, rowOf};
-ghost use Rattle.answer.specs.Answer.{batchFound, differsIn, answer, found};
+ghost use Rattle.heard.specs.Row.{heardLength, flawSlot, batchesSlot, transactionsSlot, faultSlot, flaws, badIn, faultAt, rowOf};
+ghost use Rattle.answer.specs.Answer.{batchFound, countFound, sumFound, answer, found};
 ghost use Rattle.answer.specs.Said.{said};
 use heard::Part;
 use heard::Slot;
@@ -113,30 +113,26 @@ fn batch_stage(heard: &[u64]) -> Stage
 
 fn count_stage(heard: &[u64], n: NumberOfTransactions) -> Stage
     requires { ⌜ length (now heard) ≡ heardLength ⌝ }
-    ensures { λ r. ⌜ found r ≡ at 8 (differsIn (wordAt (now (heard .entry)) part.messageCount) (n .0)) ⌝ }
+    ensures { λ r. ⌜ found r ≡ countFound (rowOf (now (heard .entry)) .said part.messageCount) n ⌝ }
 {
-    if row::number(heard, Part::MESSAGE_COUNT, Word::MARK) == 0 {
-        return Stage::Passed;
+    let declared = row::declared_count(heard, Part::MESSAGE_COUNT);
+    if profile::count_differs(declared, n) {
+        let start = row::number(heard, Part::MESSAGE_COUNT, Word::START);
+        return Stage::Refused(Refusal::MessageCount(start as usize));
     }
-    if row::number(heard, Part::MESSAGE_COUNT, Word::WORTH) == n.0 {
-        return Stage::Passed;
-    }
-    let start = row::number(heard, Part::MESSAGE_COUNT, Word::START);
-    Stage::Refused(Refusal::MessageCount(start as usize))
+    Stage::Passed
 }
 
 fn sum_stage(heard: &[u64], c: ControlSum) -> Stage
     requires { ⌜ length (now heard) ≡ heardLength ⌝ }
-    ensures { λ r. ⌜ found r ≡ at 9 (differsIn (wordAt (now (heard .entry)) part.messageSum) (c .0)) ⌝ }
+    ensures { λ r. ⌜ found r ≡ sumFound (rowOf (now (heard .entry)) .said part.messageSum) c ⌝ }
 {
-    if row::number(heard, Part::MESSAGE_SUM, Word::MARK) == 0 {
-        return Stage::Passed;
+    let declared = row::declared_sum(heard, Part::MESSAGE_SUM);
+    if profile::sum_differs(declared, c) {
+        let start = row::number(heard, Part::MESSAGE_SUM, Word::START);
+        return Stage::Refused(Refusal::MessageSum(start as usize));
     }
-    if row::number(heard, Part::MESSAGE_SUM, Word::WORTH) == c.0 {
-        return Stage::Passed;
-    }
-    let start = row::number(heard, Part::MESSAGE_SUM, Word::START);
-    Stage::Refused(Refusal::MessageSum(start as usize))
+    Stage::Passed
 }
 
 fn slips_stage(n: NumberOfTransactions, slips: usize) -> Stage

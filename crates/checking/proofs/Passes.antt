@@ -29,7 +29,7 @@ use Rattle.message.specs.declared.Told.{Told}
 use Rattle.message.specs.Message.{tell, told, batchesOf}
 use Rattle.message.specs.Verdict.{Room, accepted, verdict, first, stages, totalsOf, verdictOf}
 use Rattle.heard.specs.State.{State, fresh, step}
-use Rattle.heard.specs.Row.{Row, rowOf, stateOf}
+use Rattle.heard.specs.Row.{Row, stateOf}
 use Rattle.heard.specs.Bounds.{Within}
 use Rattle.heard.proofs.Fold.{fold}
 use Rattle.heard.proofs.Bounds.{within-more}

@@ -1,6 +1,4 @@
 -- WHAT ENDS, arm by arm, in plain variables: a transaction that is settled, a batch that is shut.
---   any-some         there is one
---   count-absent, count-said, sum-absent, sum-said   what a batch declares
 --   slip-lent        a slip: two numbers, and the texts in the stretch behind them
 --   slip-columns     the numbers of a slip as columns of the row
 --   settled-none, settled-closed, settled-some   no batch is open; no transaction; one        add-fits   it can be added
@@ -13,16 +11,14 @@ use mathlib.Core.Bool.{Bool, true, false}
 use mathlib.Core.List.{List, [], _∷_, _++_}
 use mathlib.Core.Option.{Option, none, some}
 use mathlib.Core.Path.{_≡_, refl, ap, sym, _∙_}
-use lib.ListN.{length, getD, set, take, drop, length-set}
+use lib.ListN.{length, getD, set, take, drop}
 use Rattle.laws.specs.Put.{putAt}
-use Rattle.laws.proofs.Puts.{put-two, put-append, put-back, put-all, length-put}
+use Rattle.laws.proofs.Puts.{put-two, put-append, put-back, put-all}
 use Rattle.profile.specs.Limits.{mostBytes}
 use Rattle.profile.specs.Refusals.{Fault, fault}
 use Rattle.profile.specs.Totals.{countDiffers, sumDiffers, withTransaction}
 use Rattle.profile.specs.declared.DeclaredCount.{DeclaredCount}
-use Rattle.profile.specs.declared.DeclaredCount.the-variants.{Count, Absent as NoCount}
 use Rattle.profile.specs.declared.DeclaredSum.{DeclaredSum}
-use Rattle.profile.specs.declared.DeclaredSum.the-variants.{Cents, Absent as NoSum}
 use Rattle.profile.specs.declared.Batch.{Batch}
 use Rattle.profile.specs.declared.Tally.{Tally}
 use Rattle.tree.specs.Parts as part
@@ -30,30 +26,8 @@ use Rattle.message.specs.Verdict.{orElse}
 use Rattle.heard.specs.State.{ifAny, Word, countOf, sumOf, batchFrom, faultIn, declaredParts, rowNumbers, putIf, slipParts, slipNumbers, settledTally, settledSlips}
 use Rattle.heard.specs.Row.{Row, rowOf, stateOf, withFault}
 use Rattle.heard.specs.Bounds.{Within}
+use Rattle.heard.proofs.Rows.{any-some}
 use Rattle.events.proofs.Columns.{columns}
-
-pub any-some : {A : Type 0} (k : ℕ) (a b : A) → (k ≡ 0 → ⊥) → a ≡ ifAny k a b
-any-some zero a b h = absurd (h refl)
-any-some (suc k) a b h = refl
-
--- ─── what a batch declares ───
-
-module _ (ns : List ℕ) (m : ℕ) where
-  pub count-absent : m ≡ getD ns (4 * part.batchCount + 0) 0 → m ≡ 0 → NoCount ≡ countOf (rowOf ns .said part.batchCount)
-  unfolding rowOf
-  count-absent e z = ap (λ (k : ℕ). ifAny k (Count (record { 0 = getD ns (4 * part.batchCount + 3) 0 })) NoCount) (sym (sym e ∙ z))
-
-  pub count-said : (n : ℕ) → m ≡ getD ns (4 * part.batchCount + 0) 0 → (m ≡ 0 → ⊥) → n ≡ getD ns (4 * part.batchCount + 3) 0 → Count (record { 0 = n }) ≡ countOf (rowOf ns .said part.batchCount)
-  unfolding rowOf
-  count-said n e z f = ap (λ (k : ℕ). Count (record { 0 = k })) f ∙ any-some (getD ns (4 * part.batchCount + 0) 0) _ NoCount (λ h. z (e ∙ h))
-
-  pub sum-absent : m ≡ getD ns (4 * part.batchSum + 0) 0 → m ≡ 0 → NoSum ≡ sumOf (rowOf ns .said part.batchSum)
-  unfolding rowOf
-  sum-absent e z = ap (λ (k : ℕ). ifAny k (Cents (record { 0 = getD ns (4 * part.batchSum + 3) 0 })) NoSum) (sym (sym e ∙ z))
-
-  pub sum-said : (n : ℕ) → m ≡ getD ns (4 * part.batchSum + 0) 0 → (m ≡ 0 → ⊥) → n ≡ getD ns (4 * part.batchSum + 3) 0 → Cents (record { 0 = n }) ≡ sumOf (rowOf ns .said part.batchSum)
-  unfolding rowOf
-  sum-said n e z f = ap (λ (k : ℕ). Cents (record { 0 = k })) f ∙ any-some (getD ns (4 * part.batchSum + 0) 0) _ NoSum (λ h. z (e ∙ h))
 
 -- ─── a slip ───
 

@@ -32,8 +32,8 @@ use Rattle.message.specs.Verdict.{orElse, broken}
 use Rattle.heard.specs.State.{pick, ifAny, Word, nothing, opens, Limit, fewer, faultFrom, putIf, rowNumbers, State, settledTally, settledSlips, shut, added, began, saying, inside, step}
 use Rattle.heard.specs.Row.{Row, rowOf, stateOf, stateWith, withSaid, withoutFrom, withBad, withFault, withBatch, withTransaction}
 use Rattle.heard.specs.Bounds.{Within}
+use Rattle.heard.proofs.Rows.{any-some}
 use Rattle.heard.proofs.Bounds.{Small, settled-small}
-use Rattle.events.proofs.Ends.{any-some}
 use Rattle.events.specs.Events.{endedRows, endedRow, toldRow, Plain, Finished}
 
 or-none : (f : Option Fault) → f ≡ orElse f none

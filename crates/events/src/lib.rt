@@ -8,7 +8,7 @@ ghost use Rattle.profile.specs.Limits.{mostBytes};
 ghost use Rattle.tree.specs.Parts as part;
 ghost use Rattle.text.specs.Rules.{judged};
 ghost use Rattle.text.specs.declared.Judged.the-variants.{Good};
-ghost use Rattle.heard.specs.State.{countOf, sumOf, batchFrom, faultIn, putIf, slipNumbers, rowNumbers, settledTally, settledSlips, shut, step};
+ghost use Rattle.heard.specs.State.{batchFrom, faultIn, putIf, slipNumbers, rowNumbers, settledTally, settledSlips, shut, step};
 ghost use Rattle.heard.specs.Row.{heardLength, rowOf, stateOf, withFault};
 ghost use Rattle.tree.specs.Parts.{partsEnd};
 ghost use Rattle.heard.specs.Bounds.{Within};
@@ -18,9 +18,6 @@ use heard::Word;
 use heard::row;
 use profile::Batch;
 use profile::ControlSum;
-use profile::DeclaredCount;
-use profile::DeclaredSum;
-use profile::NumberOfTransactions;
 use profile::Profile;
 use profile::Tally;
 use profile::Totals;
@@ -100,26 +97,6 @@ fn settle(heard: &[u64], slips: &mut [u64], tally: Tally) -> Tally
 
 // ─── a batch that ends ───
 
-fn declared_count(heard: &[u64]) -> DeclaredCount
-    requires { ⌜ length (now heard) ≡ heardLength ⌝ }
-    ensures { λ r. ⌜ r ≡ countOf (rowOf (now (heard .entry)) .said part.batchCount) ⌝ }
-{
-    if row::number(heard, Part::BATCH_COUNT, Word::MARK) == 0 {
-        return DeclaredCount::Absent;
-    }
-    DeclaredCount::Count(NumberOfTransactions(row::number(heard, Part::BATCH_COUNT, Word::WORTH)))
-}
-
-fn declared_sum(heard: &[u64]) -> DeclaredSum
-    requires { ⌜ length (now heard) ≡ heardLength ⌝ }
-    ensures { λ r. ⌜ r ≡ sumOf (rowOf (now (heard .entry)) .said part.batchSum) ⌝ }
-{
-    if row::number(heard, Part::BATCH_SUM, Word::MARK) == 0 {
-        return DeclaredSum::Absent;
-    }
-    DeclaredSum::Cents(ControlSum(row::number(heard, Part::BATCH_SUM, Word::WORTH)))
-}
-
 // The batch that ends, from what was said.
 fn batch_of(heard: &[u64], tally: Tally) -> Batch
     requires { ⌜ length (now heard) ≡ heardLength ⌝ }
@@ -130,8 +107,8 @@ fn batch_of(heard: &[u64], tally: Tally) -> Batch
     Batch {
         count,
         sum,
-        declared_count: declared_count(heard),
-        declared_sum: declared_sum(heard),
+        declared_count: row::declared_count(heard, Part::BATCH_COUNT),
+        declared_sum: row::declared_sum(heard, Part::BATCH_SUM),
     }
 }
 

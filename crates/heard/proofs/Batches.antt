@@ -7,24 +7,24 @@
 use Prim.Native.Nat.{ℕ, zero, suc, _+_, _-_, _*_}
 use native.Mathlib.Nat.{zero-add, add-zero}
 use native.Mathlib.Omega.{arith}
-use mathlib.Core.Bool.{Bool, true, false, not}
-use mathlib.Core.List.{List, [], _∷_, _++_, map}
-use mathlib.Core.Option.{Option, none, some}
-use mathlib.Core.Path.{_≡_, refl, ap, sym, _∙_}
-use lib.Dec.{eqb, ltb}
+use mathlib.Core.Bool.{true}
+use mathlib.Core.List.{List, [], _∷_}
+use mathlib.Core.Option.{Option, none}
+use mathlib.Core.Path.{_≡_, refl, ap, _∙_}
+use lib.Dec.{ltb}
 use lib.ListN.{length}
 use Rattle.laws.specs.Lists.{total}
 use Rattle.profile.specs.Refusals.{Fault, fault}
-use Rattle.profile.specs.Totals.{countDiffers, sumDiffers, withTransaction, closed, begun}
+use Rattle.profile.specs.Totals.{withTransaction}
 use Rattle.profile.specs.declared.Tally.{Tally}
 use Rattle.tree.specs.Parts as part
 use Rattle.message.specs.declared.Told.{Told}
 use Rattle.message.specs.Message as M
 use Rattle.message.specs.Message.{is, before, parts, transactionOf, batchOf, centsOf, count, sum}
-use Rattle.message.specs.Verdict.{orElse, at, unless, differs, batchFault, span, declared, slip, row}
-use Rattle.heard.specs.State.{pick, ifAny, Word, nothing, opens, countOf, sumOf, batchFrom, faultIn, faultFrom, putIf, slipNumbers, rowNumbers, State, settledTally, settledSlips, shut, added, began, saying, inside}
-use Rattle.heard.proofs.Fold.{by-bool, fold, stays, none-before, turn, run, sections, run-view}
-use Rattle.heard.proofs.Words.{wordOf, saying-word, inside-word, saying-mark, span-word, declared-word, worth-word}
+use Rattle.message.specs.Verdict.{orElse, at, batchFault, slip, row}
+use Rattle.heard.specs.State.{pick, ifAny, Word, nothing, opens, faultFrom, putIf, slipNumbers, rowNumbers, State, settledTally, settledSlips, shut, added, began, saying, inside}
+use Rattle.heard.proofs.Fold.{by-bool, fold, stays, none-before, sections, run-view}
+use Rattle.heard.proofs.Words.{wordOf, saying-word, inside-word, saying-mark, span-word, declared-word, worth-word, count-word, sum-word}
 
 -- ─── 1. A transaction ───
 
@@ -119,20 +119,11 @@ addBatch v b = record {
   rows = putIf (v .rows) (8 * v .batches) 8 (row (v .transactions) b);
 }
 
--- what is declared, and differs
-count-word : (o : Option Told) (n : ℕ) (r : Option Fault) → pick (countDiffers (countOf (wordOf o)) (record { 0 = n })) (some (fault 6 (wordOf o .start))) r ≡ orElse (at 6 (differs o n)) r
-count-word none n r = refl
-count-word (some t) n r = by-bool (λ z. pick (not z) (some (fault 6 (t .start))) r ≡ orElse (at 6 (unless z (t .start))) r) (eqb (M.worth t) n) refl refl
-
-sum-word : (o : Option Told) (n : ℕ) → pick (sumDiffers (sumOf (wordOf o)) (record { 0 = n })) (some (fault 7 (wordOf o .start))) none ≡ at 7 (differs o n)
-sum-word none n = refl
-sum-word (some t) n = by-bool (λ z. pick (not z) (some (fault 7 (t .start))) none ≡ at 7 (unless z (t .start))) (eqb (M.worth t) n) refl refl
-
 -- the words of a batch: its fault, and its row in numbers
 module _ (k n c : ℕ) (b : M.Batch) (said : ℕ → Word) (d : said part.batchCount ≡ wordOf (b .declaredCount)) (e : said part.batchSum ≡ wordOf (b .declaredSum)) where
   fault-words : faultFrom said (tallyOf (suc k) n c (count b) (sum b)) ≡ batchFault b
   fault-words =
-      rw (d, e) (count-word (b .declaredCount) (count b) _ ∙ ap (orElse (at 6 (differs (b .declaredCount) (count b)))) (sum-word (b .declaredSum) (sum b)))
+      rw (d, e) (λ i. orElse (at 6 (count-word (b .declaredCount) (record { 0 = count b }) i)) (at 7 (sum-word (b .declaredSum) (record { 0 = sum b }) i)))
 
   row-words : said part.scheme ≡ wordOf (b .scheme) → said part.sequence ≡ wordOf (b .sequence) → rowNumbers said (tallyOf (suc k) n c (count b) (sum b)) ≡ row n b
   row-words f g = rw (d, e, f, g) (rw (worth-word (b .scheme), worth-word (b .sequence), ← declared-word (b .declaredCount), ← declared-word (b .declaredSum)) refl)

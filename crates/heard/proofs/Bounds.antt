@@ -14,7 +14,7 @@ use Rattle.profile.specs.declared.Tally.{Tally}
 use Rattle.tree.specs.Parts as part
 use Rattle.message.specs.declared.Told.{Told}
 use Rattle.message.specs.Message.{is, worth}
-use Rattle.heard.specs.State.{pick, ifAny, Word, word, State, fresh, settledTally, shut, added, began, saying, inside, step}
+use Rattle.heard.specs.State.{pick, ifAny, Word, word, State, fresh, settledTally, added, began, saying, step}
 use Rattle.heard.specs.Bounds.{Within, Sane}
 use Rattle.heard.proofs.Fold.{by-bool}
 

@@ -9,7 +9,7 @@ use Prim.Native.Nat.{ℕ, zero, suc, _+_, _*_, _≤_}
 use native.Mathlib.Nat.{add-zero, zero-add}
 use native.Mathlib.Omega.{arith}
 use mathlib.Core.Bool.{Bool, true, false}
-use mathlib.Core.List.{List, [], _∷_, _++_, map}
+use mathlib.Core.List.{List, [], _∷_, map}
 use mathlib.Core.Option.{Option, none, some}
 use mathlib.Core.Path.{_≡_, refl, ap, sym, _∙_}
 use borrow.Author.Tests.{le-leb}
@@ -20,13 +20,12 @@ use Rattle.laws.proofs.Puts.{put-nil, put-append, length-put}
 use Rattle.profile.specs.Limits.{mostBatches, mostTransactions}
 use Rattle.profile.specs.Refusals.{Fault}
 use Rattle.profile.specs.Totals.{freshTally, totals}
-use Rattle.profile.specs.declared.Tally.{Tally}
 use Rattle.tree.specs.Parts as part
 use Rattle.message.specs.declared.Told.{Told}
 use Rattle.message.specs.Message as M
 use Rattle.message.specs.Message.{is, before, parts, all, the, batchOf, batchesOf, count, sum}
 use Rattle.message.specs.Verdict.{orElse, first, placeAfter, broken, firstBroken, batchFault, totalsOf, span, declared, slip, slipsFrom, slipsOf, row, rowsFrom, rowsOf}
-use Rattle.heard.specs.State.{pick, ifAny, Limit, fewer, limitStep, over, putIf, State, fresh, settledTally, shut, added, began, saying, inside, step}
+use Rattle.heard.specs.State.{pick, Limit, limitStep, over, putIf, State, fresh, shut, added, began, saying, inside, step}
 use Rattle.heard.proofs.Fold.{by-bool, fold, project, sections, run-view}
 use Rattle.heard.proofs.Words.{wordOf, step-word}
 use Rattle.heard.proofs.Batches.{slipsPut, Closed, closedOf, addBatch, one-batch}

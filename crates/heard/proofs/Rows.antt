@@ -1,4 +1,6 @@
 -- THE ROW OF NUMBERS, STORE BY STORE, in plain variables.
+--   any-some         there is one
+--   absent, declared what a part declares
 --   words-put        a part says something
 --   words-forgot     what was said from a part on is taken back
 --   words-kept       a store behind the words leaves them
@@ -7,26 +9,30 @@
 --                    what each arm of the code leaves
 --   fresh-row        nothing was heard
 use Prim.Native.Nat.{ℕ, zero, suc, _+_, _-_, _*_, _≤_, _<_}
-use native.Mathlib.Nat.{not-suc-le-zero}
+use native.Mathlib.Nat.{add-zero, not-suc-le-zero}
 use native.Mathlib.Omega.{arith}
-use mathlib.Core.Bool.{Bool, true, false, _&&_}
+use mathlib.Core.Bool.{Bool, _&&_}
 use mathlib.Core.List.{List, [], _∷_, _++_}
 use mathlib.Core.Option.{Option, none, some}
 use mathlib.Core.Path.{_≡_, refl, ap, sym, _∙_}
 use mathlib.Core.Logic.{_≢_}
-use borrow.Author.Tests.{ne-eqb, lt-ltb}
+use borrow.Author.Tests.{lt-ltb}
 use lib.Dec.{T, eqb, ltb, eqb→eq}
 use lib.ListN.{length, getD, set, take, drop, replicate, length-replicate, getD-replicate}
 use Rattle.laws.specs.Put.{putAt}
 use Rattle.laws.proofs.Puts.{get-before, get-behind, get-in, put-nil, put-one, put-two, put-append, put-back}
-use Rattle.laws.proofs.Below.{every, below}
+use Rattle.laws.proofs.Below.{below}
 use Rattle.laws.proofs.Tests.{eqb-cases, ltb-cases, and-l, and-r}
 use Rattle.profile.specs.Refusals.{Fault, fault}
 use Rattle.profile.specs.Totals.{freshTally}
 use Rattle.message.specs.Verdict.{orElse}
 use Rattle.heard.specs.State.{pick, ifAny, Word, nothing, Limit, fewer, fresh}
-use Rattle.heard.specs.Row.{heardLength, flawSlot, batchesSlot, transactionsSlot, faultSlot, wordAt, wordsIn, limitAt, badIn, faultAt, Row, rowOf, stateOf, counted, withSaid, withoutFrom, withBad, withFault, withBatch, withTransaction}
+use Rattle.heard.specs.Row.{heardLength, flawSlot, batchesSlot, transactionsSlot, faultSlot, wordAt, wordsIn, badIn, faultAt, Row, rowOf, stateOf, counted, withSaid, withoutFrom, withBad, withFault, withBatch, withTransaction}
 use Rattle.tree.specs.Parts.{partsEnd}
+
+pub any-some : {A : Type 0} (k : ℕ) (a b : A) → (k ≡ 0 → ⊥) → a ≡ ifAny k a b
+any-some zero a b h = absurd (h refl)
+any-some (suc k) a b h = refl
 
 -- ─── the words ───
 
@@ -52,6 +58,23 @@ module _ (ns xs : List ℕ) (at : ℕ) (room : at + length xs ≤ length ns) whe
 
   pub words-kept : flawSlot ≤ at → (p : ℕ) → wordsIn (putAt ns at xs) p ≡ wordsIn ns p
   words-kept h p = ltb-cases (λ z. pick z (wordAt (putAt ns at xs) p) nothing ≡ pick z (wordAt ns p) nothing) p partsEnd (λ l. word-before p (omega arith)) (λ g. refl)
+
+-- what a part declares, whose mark is m: nothing, or the number that it tells
+module _ {A : Type 0} (of : ℕ → A) (no : A) (ns : List ℕ) (p m : ℕ) (l : p < partsEnd) (e : m ≡ getD ns (4 * p + 0) 0) where
+  abbrev declares : ℕ → A
+  declares k = ifAny k (of (getD ns (4 * p + 3) 0)) no
+
+  in-words : declares (getD ns (4 * p + 0) 0) ≡ ifAny (rowOf ns .said p .mark) (of (rowOf ns .said p .worth)) no
+  unfolding rowOf
+  in-words =
+      ap (λ (i : ℕ). declares (getD ns i 0)) (add-zero (4 * p))
+      ∙ ap (λ (z : Bool). let w = pick z (wordAt ns p) nothing in ifAny (w .mark) (of (w .worth)) no) (sym (lt-ltb p partsEnd l))
+
+  pub absent : m ≡ 0 → no ≡ ifAny (rowOf ns .said p .mark) (of (rowOf ns .said p .worth)) no
+  absent z = ap declares (sym (sym e ∙ z)) ∙ in-words
+
+  pub declared : (n : ℕ) → (m ≡ 0 → ⊥) → n ≡ getD ns (4 * p + 3) 0 → of n ≡ ifAny (rowOf ns .said p .mark) (of (rowOf ns .said p .worth)) no
+  declared n z f = ap of f ∙ any-some (getD ns (4 * p + 0) 0) _ no (λ h. z (e ∙ h)) ∙ in-words
 
 -- a part says something
 module _ (ns : List ℕ) (q : ℕ) (x : Word) (h : length ns ≡ heardLength) (l : q < partsEnd) where
@@ -264,11 +287,7 @@ module _ (ns : List ℕ) (h : length ns ≡ heardLength) where
   count-none i p z = rw z refl
 
   pub count-one : (i p : ℕ) → i + 1 < heardLength → (getD ns i 0 ≡ 0 → ⊥) → set (set ns i (getD ns i 0 - 1)) (i + 1) p ≡ counted ns i p
-  count-one i p l n = put-two ns i (getD ns i 0 - 1) p (omega arith) ∙ go (getD ns i 0) n
-    where
-      go : (k : ℕ) → (k ≡ 0 → ⊥) → putAt ns i ((getD ns i 0 - 1) ∷ p ∷ []) ≡ ifAny k (putAt ns i ((getD ns i 0 - 1) ∷ p ∷ [])) ns
-      go zero n = absurd (n refl)
-      go (suc k) n = refl
+  count-one i p l n = put-two ns i (getD ns i 0 - 1) p (omega arith) ∙ any-some (getD ns i 0) _ ns n
 
   -- the two numbers of a limit behind one element more
   fewer-is : (k q p : ℕ) → (k ≡ 0 → ⊥) → limit (k - 1) p ≡ fewer k q p

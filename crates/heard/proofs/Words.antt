@@ -5,17 +5,21 @@
 --   step-word           for a part before the batch
 --   saying-mark         a mark stays
 --   span-word, declared-word, worth-word   the columns of a word are those of the definitions
+--   count-word, sum-word   what is declared in a word differs where its text does
 use Prim.Native.Nat.{ℕ}
-use mathlib.Core.Bool.{Bool, true, false}
+use mathlib.Core.Bool.{Bool, true, false, not}
 use mathlib.Core.List.{List, [], _∷_}
 use mathlib.Core.Option.{Option, none, some}
 use mathlib.Core.Path.{_≡_, refl, ap, _∙_}
-use lib.Dec.{ltb}
+use lib.Dec.{eqb, ltb}
+use Rattle.profile.specs.Totals.{countDiffers, sumDiffers}
+use Rattle.profile.specs.declared.NumberOfTransactions.{NumberOfTransactions}
+use Rattle.profile.specs.declared.ControlSum.{ControlSum}
 use Rattle.tree.specs.Parts as part
 use Rattle.message.specs.declared.Told.{Told}
-use Rattle.message.specs.Message.{is, all, lastOr, worthOf}
-use Rattle.message.specs.Verdict.{span, declared}
-use Rattle.heard.specs.State.{pick, Word, nothing, word, opens, State, added, began, saying, inside, step}
+use Rattle.message.specs.Message.{is, all, lastOr, worth, worthOf}
+use Rattle.message.specs.Verdict.{unless, differs, span, declared}
+use Rattle.heard.specs.State.{pick, when, Word, nothing, word, countOf, sumOf, State, added, began, saying, inside, step}
 use Rattle.heard.proofs.Fold.{by-bool, fold, project, keeps}
 
 abbrev pub wordOf : Option Told → Word
@@ -67,3 +71,15 @@ declared-word (some t) = refl
 pub worth-word : (o : Option Told) → wordOf o .worth ≡ worthOf o
 worth-word none = refl
 worth-word (some t) = refl
+
+when-not : (z : Bool) (p : ℕ) → when (not z) p ≡ unless z p
+when-not true p = refl
+when-not false p = refl
+
+pub count-word : (o : Option Told) (n : NumberOfTransactions) → when (countDiffers (countOf (wordOf o)) n) (wordOf o .start) ≡ differs o (n .0)
+count-word none n = refl
+count-word (some t) n = when-not (eqb (worth t) (n .0)) (t .start)
+
+pub sum-word : (o : Option Told) (c : ControlSum) → when (sumDiffers (sumOf (wordOf o)) c) (wordOf o .start) ≡ differs o (c .0)
+sum-word none c = refl
+sum-word (some t) c = when-not (eqb (worth t) (c .0)) (t .start)

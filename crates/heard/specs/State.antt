@@ -1,5 +1,6 @@
 -- WHAT WAS HEARD of a message so far, as the code keeps it, and its step for one event. Executable; that it is right is proofs/Right.
 --   pick z a b, ifAny k a b   a where the test z holds, or k is not 0; else b
+--   when z p                  p where the test z holds; else none
 --   Word, nothing, word t     what a part last said: 1, its text's start and length, and the number that it tells; all 0 where it said nothing
 --   Limit, limitStep n l t    how many elements of the part n may still come before one is too many, and the place of the last one
 --   State                     what was said, part by part; first faults; the tally; the two lent tables
@@ -15,7 +16,7 @@ use lib.ListN.{length}
 use Rattle.laws.specs.Lists.{gather}
 use Rattle.laws.specs.Put.{putAt}
 use Rattle.profile.specs.Limits.{mostBatches, mostTransactions}
-use Rattle.profile.specs.Refusals.{Fault, fault}
+use Rattle.profile.specs.Refusals.{Fault}
 use Rattle.profile.specs.Totals.{countDiffers, sumDiffers, freshTally, withTransaction, closed, begun}
 use Rattle.profile.specs.declared.DeclaredCount.{DeclaredCount}
 use Rattle.profile.specs.declared.DeclaredCount.the-variants.{Count, Absent as NoCount}
@@ -26,7 +27,7 @@ use Rattle.profile.specs.declared.Tally.{Tally}
 use Rattle.tree.specs.Parts as part
 use Rattle.message.specs.declared.Told.{Told}
 use Rattle.message.specs.Message.{is, worth}
-use Rattle.message.specs.Verdict.{orElse, broken}
+use Rattle.message.specs.Verdict.{at, orElse, broken}
 
 abbrev pub pick : {A : Type 0} → Bool → A → A → A
 pick true a b = a
@@ -35,6 +36,9 @@ pick false a b = b
 abbrev pub ifAny : {A : Type 0} → ℕ → A → A → A
 ifAny zero a b = b
 ifAny (suc k) a b = a
+
+abbrev pub when : Bool → ℕ → Option ℕ
+when z p = pick z (some p) none
 
 -- ─── 1. What a part last said ───
 
@@ -85,7 +89,7 @@ batchFrom said y = record { count = y .count; sum = y .sum; «declared_count» =
 
 -- its count, then its sum
 abbrev pub faultIn : Batch → ℕ → ℕ → Option Fault
-faultIn b p q = pick (countDiffers (b .«declared_count») (b .count)) (some (fault 6 p)) (pick (sumDiffers (b .«declared_sum») (b .sum)) (some (fault 7 q)) none)
+faultIn b p q = orElse (at 6 (when (countDiffers (b .«declared_count») (b .count)) p)) (at 7 (when (sumDiffers (b .«declared_sum») (b .sum)) q))
 
 abbrev pub faultFrom : (ℕ → Word) → Tally → Option Fault
 faultFrom said y = faultIn (batchFrom said y) (said part.batchCount .start) (said part.batchSum .start)

@@ -6,13 +6,16 @@ ghost use Prim.Native.Nat.{ℕ, _+_, _*_, _≤_, _<_};
 ghost use lib.ListN.{length, getD};
 ghost use Rattle.profile.specs.Refusals.{flawed, fault};
 ghost use Rattle.profile.specs.Totals.{freshTally};
-ghost use Rattle.heard.specs.State.{fresh};
-ghost use Rattle.heard.specs.Row.{heardLength, flawSlot, rowOf, stateOf, badIn, counted, withSaid, withoutFrom, withBad, withFault, withBatch, withTransaction};
+ghost use Rattle.heard.specs.State.{countOf, sumOf, fresh};
+ghost use Rattle.heard.specs.Row.{heardLength, rowOf, stateOf, badIn, counted, withSaid, withoutFrom, withBad, withFault, withBatch, withTransaction};
 ghost use Rattle.tree.specs.Parts.{partsEnd};
-use crate::Part;
 use crate::Slot;
 use crate::Word;
+use profile::ControlSum;
+use profile::DeclaredCount;
+use profile::DeclaredSum;
 use profile::Flaw;
+use profile::NumberOfTransactions;
 use profile::Profile;
 
 // Nothing was heard.
@@ -33,6 +36,28 @@ pub fn number(heard: &[u64], part: usize, i: usize) -> u64
     ensures { λ r. ⌜ r ≡ getD (now (heard .entry)) (4 * part + i) 0 ⌝ }
 {
     heard[Word::END * part + i]
+}
+
+// The count that a part declares.
+pub fn declared_count(heard: &[u64], part: usize) -> DeclaredCount
+    requires { ⌜ (length (now heard) ≡ heardLength) × (part < partsEnd) ⌝ }
+    ensures { λ r. ⌜ r ≡ countOf (rowOf (now (heard .entry)) .said part) ⌝ }
+{
+    if number(heard, part, Word::MARK) == 0 {
+        return DeclaredCount::Absent;
+    }
+    DeclaredCount::Count(NumberOfTransactions(number(heard, part, Word::WORTH)))
+}
+
+// The sum that a part declares.
+pub fn declared_sum(heard: &[u64], part: usize) -> DeclaredSum
+    requires { ⌜ (length (now heard) ≡ heardLength) × (part < partsEnd) ⌝ }
+    ensures { λ r. ⌜ r ≡ sumOf (rowOf (now (heard .entry)) .said part) ⌝ }
+{
+    if number(heard, part, Word::MARK) == 0 {
+        return DeclaredSum::Absent;
+    }
+    DeclaredSum::Cents(ControlSum(number(heard, part, Word::WORTH)))
 }
 
 // Fills a word: the whole of the stretch that it is lent.

@@ -1,30 +1,30 @@
--- `answer::count_stage` meets its contract, by the tests that are made.
-use Rattle.tree.specs.Parts as part
-use Rattle.heard.specs.Row.{wordAt}
-use Rattle.answer.proofs.Answers.{absent, same, other}
+-- `answer::count_stage` meets its contract, by the test that is made.
+use mathlib.Core.Path.{ap, _∙_}
+use Rattle.profile.specs.Totals.{countDiffers}
+use Rattle.profile.specs.declared.DeclaredCount.{DeclaredCount}
+use Rattle.heard.specs.Row.{rowOf}
+use Rattle.answer.proofs.Answers.{same, other}
 use borrow.Author.Needs.{needs}
 use Rattle.answer.proofs.count_stage.Statement.{statement}
 use Rattle.answer.proofs.count_stage.Tie as tie
+
+declared-count-requires : tie.Need-declared-count-requires
+declared-count-requires c κs = search needs
+
+count-differs-requires : tie.Need-count-differs-requires
+count-differs-requires c κs = search needs
 
 number-requires : tie.Need-number-requires
 number-requires c κs = search needs
 
 returns : tie.Need-returns
-returns c = absent 8 (wordAt (c .before .before .before .args .heard .now) part.messageCount) _ 0 (c .before .before .before .args .n .0) (c .before .number .ensures) (c .if1 .taken)
-
-number-requires-2 : tie.Need-number-requires-2
-number-requires-2 c κs = search needs
+unfolding rowOf
+returns c = other 8 _ _ _ (c .before .before .count-differs .ensures ∙ ap (λ (d : DeclaredCount). countDiffers d (c .before .before .before .before .before .args .n)) (c .before .before .before .declared-count .ensures)) (c .before .if1 .taken) _ (c .number .ensures)
 
 returns-2 : tie.Need-returns-2
-returns-2 c = same 8 (wordAt (c .before .before .before .before .before .before .args .heard .now) part.messageCount) _ _ (c .before .before .before .before .before .before .args .n .0) (c .before .before .before .before .number .ensures) (c .before .before .number2 .ensures) (c .if2 .taken)
-
-number-requires-3 : tie.Need-number-requires-3
-number-requires-3 c κs = search needs
-
-returns-3 : tie.Need-returns-3
-returns-3 c = other 8 (wordAt (c .before .before .before .before .before .before .before .args .heard .now) part.messageCount) _ _ (c .before .before .before .before .before .before .before .args .n .0) (c .before .before .before .before .before .number .ensures) _ (c .before .before .before .before .if1 .left) (c .before .before .before .number2 .ensures) (c .before .if2 .left) (c .number3 .ensures)
+returns-2 c = same 8 _ _ _ (c .before .count-differs .ensures ∙ ap (λ (d : DeclaredCount). countDiffers d (c .before .before .before .before .args .n)) (c .before .before .declared-count .ensures)) (c .if1 .left)
 
 pub count-stage-spec : {M : Type 1} → statement M
 count-stage-spec =
     tie.close
-    (tie.spec number-requires returns number-requires-2 returns-2 number-requires-3 returns-3)
+    (tie.spec declared-count-requires count-differs-requires number-requires returns returns-2)
