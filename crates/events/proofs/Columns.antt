@@ -2,14 +2,14 @@
 --   all-at                each of the parts is one
 --   columns, columns-step, columns-done   two numbers of each part; one turn of the loop, with the rest still to be put behind it; no part is left
 --   put-none, put-lent    no room; the stretch that was lent comes back
---   row-lent, row-length  the same of a row's declarations
+--   row-lent              the same of a row's declarations
 use Prim.Native.Nat.{ℕ, zero, suc, _+_, _-_, _*_, _≤_, _<_}
 use native.Mathlib.Nat.{not-suc-le-zero}
 use native.Mathlib.Omega.{arith}
 use mathlib.Core.List.{List, [], _∷_, _++_}
 use mathlib.Core.Path.{_≡_, refl, ap, sym, subst⁻¹, _∙_}
 use borrow.Author.Tests.{le-leb, lt-leb}
-use lib.ListN.{length, getD, set, take, drop, length-append, drop-of-length-le}
+use lib.ListN.{length, getD, set, take, drop, drop-of-length-le}
 use Rattle.laws.specs.Lists.{gather, All}
 use Rattle.laws.specs.Put.{putAt}
 use Rattle.laws.proofs.Loops.{drop-step}
@@ -78,7 +78,3 @@ pub row-lent : (l ys : List ℕ) (a b c d : ℕ) → length l ≡ 8
 row-lent l ys a b c d h =
     subst⁻¹ (λ (m : List ℕ). take 3 (set (set (set (set m 0 a) 1 b) 2 c) 7 d) ++ (ys ++ drop (7 - 3) (drop 3 (set (set (set (set m 0 a) 1 b) 2 c) 7 d))) ≡ a ∷ b ∷ c ∷ (ys ++ (d ∷ [])))
     (all-firsts 8 l h) refl
-
-pub row-length : (l ys : List ℕ) (a b c d : ℕ) → length l ≡ 8 → length ys ≡ 4
-    → length (take 3 (set (set (set (set l 0 a) 1 b) 2 c) 7 d) ++ (ys ++ drop (7 - 3) (drop 3 (set (set (set (set l 0 a) 1 b) 2 c) 7 d)))) ≡ length l
-row-length l ys a b c d h n = ap length (row-lent l ys a b c d h) ∙ omega (arith, length-append ys (d ∷ []), n, h)

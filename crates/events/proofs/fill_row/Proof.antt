@@ -1,8 +1,8 @@
 -- `fill_row` meets its contract: four stores, and the columns of what is declared.
 use native.Mathlib.Omega.{arith}
 use mathlib.Core.Path.{ap, _∙_}
-use lib.ListN.{length, length-set}
-use Rattle.events.proofs.Columns.{row-lent, row-length}
+use lib.ListN.{length, length-append, length-set, length-take, length-drop}
+use Rattle.events.proofs.Columns.{row-lent}
 use Rattle.events.proofs.Ends.{terms-small, row-columns}
 use borrow.Author.Needs.{needs}
 use Rattle.events.proofs.fill_row.Statement.{statement}
@@ -48,7 +48,7 @@ fill-columns-requires : tie.Need-fill-columns-requires
 fill-columns-requires c κs = search needs
 
 same-length : tie.Need-same-length
-same-length c = row-length (c .before .before .before .before .before .before .before .before .before .args .row .now) (c .before .before .fill-columns .last .0) _ _ _ _ (c .before .before .before .before .before .before .before .before .before .pre .0) (ap length (c .before .before .fill-columns .ensures))
+same-length c = simp (length-append, length-take, length-drop, length-set) (omega (arith, ap length (c .before .before .fill-columns .ensures)))
 
 returns : tie.Need-returns
 returns c =
