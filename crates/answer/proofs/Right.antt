@@ -14,7 +14,7 @@ use Rattle.profile.specs.declared.Totals.{Totals}
 use Rattle.tree.specs.Parts as part
 use Rattle.message.specs.declared.Told.{Told}
 use Rattle.message.specs.Message as M
-use Rattle.message.specs.Message.{the, batchesOf, count, sum}
+use Rattle.message.specs.Message.{the, batchesOf, exactCount, exactSum}
 use Rattle.message.specs.Verdict.{Room, Verdict, verdict, at, first, orElse, unless, differs, batchFault, totalsOf, verdictOf}
 use Rattle.heard.specs.State.{when, Word, Limit, over, countOf, sumOf, State, shut}
 use Rattle.heard.specs.Row.{Row}
@@ -30,7 +30,7 @@ found-or (some a) b e f = e
 
 batch-found : (bs : List M.Batch) → batchFound (first (map batchFault bs)) ≡ first (map batchFault bs)
 batch-found [] = refl
-batch-found (b ∷ bs) = found-or (batchFault b) (first (map batchFault bs)) (one (differs (b .declaredCount) (count b)) (differs (b .declaredSum) (sum b))) (batch-found bs)
+batch-found (b ∷ bs) = found-or (batchFault b) (first (map batchFault bs)) (one (differs (b .declaredCount) (exactCount b)) (differs (b .declaredSum) (exactSum b))) (batch-found bs)
   where
     one : (p q : Option ℕ) → batchFound (orElse (at 6 p) (at 7 q)) ≡ orElse (at 6 p) (at 7 q)
     one none none = refl

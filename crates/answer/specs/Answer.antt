@@ -2,7 +2,7 @@
 --   batchFound f     the first fault of a batch: of its count, else of its sum
 --   countFound w n, sumFound w c   the header's count, and its sum, where they are declared and differ
 --   answer r w y     what is answered where r is the room of the tables
---   found            what a stage of the code says
+--   stageFault       what a stage of the code says
 use Prim.Native.Nat.{_*_}
 use mathlib.Core.List.{[], _∷_}
 use mathlib.Core.Option.{Option, none, some}
@@ -14,14 +14,14 @@ use Rattle.profile.specs.Refusals.{Fault, fault, faultOf}
 use Rattle.profile.specs.Totals.{countDiffers, sumDiffers}
 use Rattle.tree.specs.Parts as part
 use Rattle.message.specs.Verdict.{Room, Verdict, verdict, at, first, unless}
-use Rattle.heard.specs.State.{pick, when, Word, over, countOf, sumOf}
+use Rattle.heard.specs.State.{ifTrue, when, Word, over, countOf, sumOf}
 use Rattle.heard.specs.Row.{Row}
 use Rattle.answer.specs.declared.Stage.{Stage}
 use Rattle.answer.specs.declared.Stage.the-variants.{Passed, Refused as Stopped}
 
 abbrev pub batchFound : Option Fault → Option Fault
 batchFound none = none
-batchFound (some f) = some (fault (pick (eqb (f .number) 6) 6 7) (f .place))
+batchFound (some f) = some (fault (ifTrue (eqb (f .number) 6) 6 7) (f .place))
 
 abbrev pub countFound : Word → NumberOfTransactions → Option Fault
 countFound w n = at 8 (when (countDiffers (countOf w) n) (w .start))
@@ -43,6 +43,6 @@ answer r w y =
     ∷ []))
     y
 
-abbrev pub found : Stage → Option Fault
-found Passed = none
-found (Stopped x) = some (faultOf x)
+abbrev pub stageFault : Stage → Option Fault
+stageFault Passed = none
+stageFault (Stopped x) = some (faultOf x)

@@ -9,7 +9,7 @@ ghost use Rattle.tree.specs.Parts as part;
 ghost use Rattle.message.specs.Verdict.{verdict, at, orElse, unless};
 ghost use Rattle.heard.specs.State.{over};
 ghost use Rattle.heard.specs.Row.{heardLength, flawSlot, batchesSlot, transactionsSlot, faultSlot, flaws, badIn, faultAt, rowOf};
-ghost use Rattle.answer.specs.Answer.{batchFound, countFound, sumFound, answer, found};
+ghost use Rattle.answer.specs.Answer.{batchFound, countFound, sumFound, answer, stageFault};
 ghost use Rattle.answer.specs.Said.{said};
 use heard::Part;
 use heard::Slot;
@@ -35,7 +35,7 @@ pub enum Checked {
 
 // The first stage's refusal, else the second's.
 fn or_else(a: Stage, b: Stage) -> Stage
-    ensures { λ r. ⌜ found r ≡ orElse (found a) (found b) ⌝ }
+    ensures { λ r. ⌜ stageFault r ≡ orElse (stageFault a) (stageFault b) ⌝ }
 {
     match a {
         Stage::Refused(refusal) => Stage::Refused(refusal),
@@ -47,7 +47,7 @@ fn or_else(a: Stage, b: Stage) -> Stage
 
 fn batches_stage(heard: &[u64]) -> Stage
     requires { ⌜ length (now heard) ≡ heardLength ⌝ }
-    ensures { λ r. ⌜ found r ≡ at 3 (over (getD (now (heard .entry)) batchesSlot 0) (getD (now (heard .entry)) (batchesSlot + 1) 0)) ⌝ }
+    ensures { λ r. ⌜ stageFault r ≡ at 3 (over (getD (now (heard .entry)) batchesSlot 0) (getD (now (heard .entry)) (batchesSlot + 1) 0)) ⌝ }
 {
     if heard[Slot::BATCHES] != 0 {
         return Stage::Passed;
@@ -57,7 +57,7 @@ fn batches_stage(heard: &[u64]) -> Stage
 
 fn transactions_stage(heard: &[u64]) -> Stage
     requires { ⌜ length (now heard) ≡ heardLength ⌝ }
-    ensures { λ r. ⌜ found r ≡ at 4 (over (getD (now (heard .entry)) transactionsSlot 0) (getD (now (heard .entry)) (transactionsSlot + 1) 0)) ⌝ }
+    ensures { λ r. ⌜ stageFault r ≡ at 4 (over (getD (now (heard .entry)) transactionsSlot 0) (getD (now (heard .entry)) (transactionsSlot + 1) 0)) ⌝ }
 {
     if heard[Slot::TRANSACTIONS] != 0 {
         return Stage::Passed;
@@ -84,7 +84,7 @@ fn flaw_of(n: u64) -> Flaw
 
 fn text_stage(heard: &[u64]) -> Stage
     requires { ⌜ length (now heard) ≡ heardLength ⌝ }
-    ensures { λ r. ⌜ found r ≡ badIn (getD (now (heard .entry)) flawSlot 0) (getD (now (heard .entry)) (flawSlot + 1) 0) ⌝ }
+    ensures { λ r. ⌜ stageFault r ≡ badIn (getD (now (heard .entry)) flawSlot 0) (getD (now (heard .entry)) (flawSlot + 1) 0) ⌝ }
 {
     let n = heard[Slot::FLAW];
     if n == 0 {
@@ -96,7 +96,7 @@ fn text_stage(heard: &[u64]) -> Stage
 
 fn batch_stage(heard: &[u64]) -> Stage
     requires { ⌜ length (now heard) ≡ heardLength ⌝ }
-    ensures { λ r. ⌜ found r ≡ batchFound (faultAt (getD (now (heard .entry)) faultSlot 0) (getD (now (heard .entry)) (faultSlot + 1) 0)) ⌝ }
+    ensures { λ r. ⌜ stageFault r ≡ batchFound (faultAt (getD (now (heard .entry)) faultSlot 0) (getD (now (heard .entry)) (faultSlot + 1) 0)) ⌝ }
 {
     let n = heard[Slot::FAULT];
     if n == 0 {
@@ -113,7 +113,7 @@ fn batch_stage(heard: &[u64]) -> Stage
 
 fn count_stage(heard: &[u64], n: NumberOfTransactions) -> Stage
     requires { ⌜ length (now heard) ≡ heardLength ⌝ }
-    ensures { λ r. ⌜ found r ≡ countFound (rowOf (now (heard .entry)) .said part.messageCount) n ⌝ }
+    ensures { λ r. ⌜ stageFault r ≡ countFound (rowOf (now (heard .entry)) .said part.messageCount) n ⌝ }
 {
     let declared = row::declared_count(heard, Part::MESSAGE_COUNT);
     if profile::count_differs(declared, n) {
@@ -125,7 +125,7 @@ fn count_stage(heard: &[u64], n: NumberOfTransactions) -> Stage
 
 fn sum_stage(heard: &[u64], c: ControlSum) -> Stage
     requires { ⌜ length (now heard) ≡ heardLength ⌝ }
-    ensures { λ r. ⌜ found r ≡ sumFound (rowOf (now (heard .entry)) .said part.messageSum) c ⌝ }
+    ensures { λ r. ⌜ stageFault r ≡ sumFound (rowOf (now (heard .entry)) .said part.messageSum) c ⌝ }
 {
     let declared = row::declared_sum(heard, Part::MESSAGE_SUM);
     if profile::sum_differs(declared, c) {
@@ -137,7 +137,7 @@ fn sum_stage(heard: &[u64], c: ControlSum) -> Stage
 
 fn slips_stage(n: NumberOfTransactions, slips: usize) -> Stage
     requires { ⌜ n .0 ≤ mostBytes + 1 ⌝ }
-    ensures { λ r. ⌜ found r ≡ at 10 (unless (leb (12 * n .0) slips) (12 * n .0)) ⌝ }
+    ensures { λ r. ⌜ stageFault r ≡ at 10 (unless (leb (12 * n .0) slips) (12 * n .0)) ⌝ }
 {
     let needed = 12 * n.0 as usize;
     if needed <= slips {
@@ -148,7 +148,7 @@ fn slips_stage(n: NumberOfTransactions, slips: usize) -> Stage
 
 fn rows_stage(batches: u64, rows: usize) -> Stage
     requires { ⌜ batches ≤ mostBytes + 1 ⌝ }
-    ensures { λ r. ⌜ found r ≡ at 11 (unless (leb (8 * batches) rows) (8 * batches)) ⌝ }
+    ensures { λ r. ⌜ stageFault r ≡ at 11 (unless (leb (8 * batches) rows) (8 * batches)) ⌝ }
 {
     let needed = 8 * batches as usize;
     if needed <= rows {
@@ -160,7 +160,7 @@ fn rows_stage(batches: u64, rows: usize) -> Stage
 // ─── the answer ───
 
 fn conclude(all: Stage, y: Totals) -> Checked
-    ensures { λ r. ⌜ said r ≡ verdict (found all) y ⌝ }
+    ensures { λ r. ⌜ said r ≡ verdict (stageFault all) y ⌝ }
 {
     match all {
         Stage::Passed => Checked::Accepted(y),

@@ -11,13 +11,13 @@ use Rattle.laws.specs.Bytes.{Bytes, span}
 use Rattle.laws.specs.Lists.{total}
 use Rattle.bundle.specs.Labels.{pick}
 use Rattle.put.specs.Wrote.{Wrote}
-use Rattle.listed.specs.Listed.{Terms, Collection, Creditor, listed}
+use Rattle.collections.specs.Listed.{Terms, Collection, Creditor, listed}
 use Rattle.written.specs.Written.{noCollection, termsOf}
 use Rattle.written.specs.Pieces.{totalsBytes, termsBytes, creditorBytes, headBytes}
-use Rattle.batched.specs.Ready.{collectionAt, Batch}
+use Rattle.batched.specs.Ready.{collectionAt, BatchReady}
 use Rattle.batched.proofs.Picks.{pick-first, first-there}
 
-module _ (s : Bytes) (table labels : List ℕ) (k : ℕ) (q : Batch s table labels k) (first : ℕ) (e : first ≡ span (λ l. not (eqb k l)) labels) where
+module _ (s : Bytes) (table labels : List ℕ) (k : ℕ) (q : BatchReady s table labels k) (first : ℕ) (e : first ≡ span (λ l. not (eqb k l)) labels) where
   pub first-under : first < length labels
   first-under = rw e (first-there k labels (q .some))
 

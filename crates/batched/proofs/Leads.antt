@@ -14,24 +14,24 @@ use Rattle.laws.specs.Bytes.{Bytes, span}
 use Rattle.laws.proofs.Loops.{span-le}
 use Rattle.laws.proofs.Tests.{and-l, and-r, true-T}
 use Rattle.frames.specs.Hex.{unhex}
-use Rattle.frames.specs.Frames.{framed, collection}
+use Rattle.frames.specs.Frames.{framed, collectionFrame}
 use Rattle.frames.proofs.Digits.{unhex-length}
 use Rattle.frames.proofs.Parts.{unhex-take}
-use Rattle.listed.specs.Listed.{collectionOf}
+use Rattle.collections.specs.Listed.{collectionOf}
 use Rattle.batched.specs.Ready.{collectionAt}
 use Rattle.frames.specs.Lines.{notEnd, lineFrom}
 
-eight : (s : Bytes) → framed collection s ≡ true → 8 ≤ length s
+eight : (s : Bytes) → framed collectionFrame s ≡ true → 8 ≤ length s
 eight [] h = absurd (true-T false h)
 eight (k ∷ s) h =
-    let t = and-r (eqb k 2) _ (true-T (framed collection (k ∷ s)) h) in
+    let t = and-r (eqb k 2) _ (true-T (framed collectionFrame (k ∷ s)) h) in
     omega (arith, leb→le 7 (length s) (and-l (leb 7 (length s)) _ t))
 
 cents-front : (s : Bytes) → collectionOf (take 8 s) .cents ≡ collectionOf s .cents
 cents-front [] = refl
 cents-front (k ∷ s) = rw (take-take 7 7 s (le-refl 7))
 
-module _ (s : Bytes) (a : ℕ) (h : framed collection (unhex (lineFrom s a)) ≡ true) where
+module _ (s : Bytes) (a : ℕ) (h : framed collectionFrame (unhex (lineFrom s a)) ≡ true) where
   lead-there : 16 ≤ span notEnd (drop a s)
   lead-there =
       omega (arith, eight (unhex (lineFrom s a)) h, unhex-length (lineFrom s a), length-take-le (span notEnd (drop a s)) (drop a s) (span-le notEnd (drop a s)))

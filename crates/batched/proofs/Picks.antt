@@ -22,10 +22,10 @@ use Rattle.laws.specs.Bytes.{Bytes, span}
 use Rattle.laws.specs.Lists.{one, putIf, total, count, gather}
 use Rattle.profile.specs.Limits.{mostCents}
 use Rattle.bundle.specs.Labels.{pick}
-use Rattle.listed.specs.Listed.{Collection, listed}
+use Rattle.collections.specs.Listed.{Collection, listed}
 use Rattle.written.specs.Written.{noCollection}
 use Rattle.written.specs.Pieces.{transactionBytes}
-use Rattle.batched.specs.Ready.{collectionAt, Ready}
+use Rattle.batched.specs.Ready.{collectionAt, ListReady}
 
 module _ {X : Type 0} where
   pub total-one : (f : X → ℕ) (z : Bool) (x : X) (xs : List X) → total f (putIf z x xs) ≡ total f (putIf z x []) + total f xs
@@ -110,7 +110,7 @@ module _ (s : Bytes) (table labels : List ℕ) (k : ℕ) where
   pub summed-start : Summed 0 0
   summed-start = record { within = omega arith; few = omega arith; is = omega arith }
 
-  module _ (q : Ready s table labels) (i : ℕ) (h : i < length labels) where
+  module _ (q : ListReady s table labels) (i : ℕ) (h : i < length labels) where
     -- the collection i, where it has the label
     abbrev own : List Collection
     own = putIf (eqb k (getD labels i 0)) (getD (listed s) i noCollection) []

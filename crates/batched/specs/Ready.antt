@@ -1,10 +1,10 @@
 -- WHAT THE WRITERS OF A MESSAGE ASK of the list, its table of starts and its labels. Not to be believed: a list that is judged good, with its table and labels, has it all (`ready`).
---   collectionAt s a, creditorAt s   the collection of the line from a on; the creditor of the first line
---   Ready s table labels             s has its creditor, and each collection is found by the table and has a label
---   Batch .. k, Batches .. m         a collection has the label k; for each label below m one has it
---   batchRoom                        no batch has more bytes
---   batchesFrom k m labels xs        m batches from number k on: each the collections of xs that have its label
---   messageBy s labels m             the bytes of the message of the list s whose m batches have these labels
+--   collectionAt s a, creditorAt s       the collection of the line from a on; the creditor of the first line
+--   ListReady s table labels             s has its creditor, and each collection is found by the table and has a label
+--   BatchReady .. k, BatchesReady .. m   a collection has the label k; for each label below m one has it
+--   batchRoom                            no batch has more bytes
+--   batchesFrom k m labels xs            m batches from number k on: each the collections of xs that have its label
+--   messageBy s labels m                 the bytes of the message of the list s whose m batches have these labels
 use Prim.Native.Nat.{ℕ, _+_, _*_, _≤_, _<_}
 use mathlib.Core.Bool.{true}
 use mathlib.Core.List.{List, map}
@@ -16,9 +16,9 @@ use Rattle.laws.specs.Lists.{count}
 use Rattle.profile.specs.Limits.{mostBatches, mostCollections, mostCents}
 use Rattle.frames.specs.Lines.{lineFrom}
 use Rattle.frames.specs.Hex.{unhex}
-use Rattle.frames.specs.Frames.{framed, creditor as creditorFrame, collection}
+use Rattle.frames.specs.Frames.{framed, creditorFrame, collectionFrame}
 use Rattle.bundle.specs.Labels.{pick, upFrom}
-use Rattle.listed.specs.Listed.{Collection, Creditor, collectionOf, creditorOf, listed}
+use Rattle.collections.specs.Listed.{Collection, Creditor, collectionOf, creditorOf, listed}
 use Rattle.written.specs.Written.{noCollection}
 use Rattle.written.specs.Pieces.{messageBytes}
 
@@ -28,23 +28,23 @@ collectionAt s a = collectionOf (unhex (lineFrom s a))
 abbrev pub creditorAt : Bytes → Creditor
 creditorAt s = creditorOf (unhex (lineFrom s 0))
 
-pub record Ready (s : Bytes) (table labels : List ℕ) : Type 0 where
+pub record ListReady (s : Bytes) (table labels : List ℕ) : Type 0 where
   pub creditor : framed creditorFrame (unhex (lineFrom s 0)) ≡ true
   pub few : length labels ≤ mostCollections
   pub size : length table ≡ length labels + 1
   pub count : length (listed s) ≡ length labels
   pub inside : (i : ℕ) → i < length labels → getD table (i + 1) 0 ≤ length s
-  pub frame : (i : ℕ) → i < length labels → framed collection (unhex (lineFrom s (getD table (i + 1) 0))) ≡ true
+  pub frame : (i : ℕ) → i < length labels → framed collectionFrame (unhex (lineFrom s (getD table (i + 1) 0))) ≡ true
   pub is : (i : ℕ) → i < length labels → collectionAt s (getD table (i + 1) 0) ≡ getD (listed s) i noCollection
   pub cents : (i : ℕ) → i < length labels → (getD (listed s) i noCollection) .cents ≤ mostCents
 
-pub record Batch (s : Bytes) (table labels : List ℕ) (k : ℕ) : Type 0 where
-  pub ready : Ready s table labels
+pub record BatchReady (s : Bytes) (table labels : List ℕ) (k : ℕ) : Type 0 where
+  pub ready : ListReady s table labels
   pub some : 1 ≤ count (eqb k) labels
   pub under : k < mostBatches
 
-pub record Batches (s : Bytes) (table labels : List ℕ) (m : ℕ) : Type 0 where
-  pub ready : Ready s table labels
+pub record BatchesReady (s : Bytes) (table labels : List ℕ) (m : ℕ) : Type 0 where
+  pub ready : ListReady s table labels
   pub some : (k : ℕ) → k < m → 1 ≤ count (eqb k) labels
   pub most : m ≤ mostBatches
 

@@ -9,13 +9,13 @@ ghost use Rattle.laws.specs.Bytes.{span};
 ghost use Rattle.laws.specs.Lists.{putIf, total, count, gather};
 ghost use Rattle.frames.specs.Hex.{unhex};
 ghost use Rattle.frames.specs.Lines.{lineFrom};
-ghost use Rattle.frames.specs.Frames.{framed, creditor, collection};
+ghost use Rattle.frames.specs.Frames.{framed, creditorFrame, collectionFrame};
 ghost use Rattle.profile.specs.Limits.{mostCents};
 ghost use Rattle.bundle.specs.Labels.{pick};
 ghost use Rattle.put.specs.Wrote.{Wrote};
-ghost use Rattle.listed.specs.Listed.{listed};
+ghost use Rattle.collections.specs.Listed.{listed};
 ghost use Rattle.written.specs.Pieces.{transactionBytes, termsBytes, creditorBytes, batchBytes};
-ghost use Rattle.batched.specs.Ready.{collectionAt, creditorAt, Ready, Batch, batchRoom};
+ghost use Rattle.batched.specs.Ready.{collectionAt, creditorAt, ListReady, BatchReady, batchRoom};
 use profile::ControlSum;
 use profile::NumberOfTransactions;
 
@@ -24,7 +24,7 @@ use profile::NumberOfTransactions;
 // The cents of the line that starts at a place, where it is one of the batch, else 0. They stand in its first eight bytes, in 16 digits.
 fn own_cents(list: &[u8], start: usize, own: bool) -> ControlSum
     requires { ⌜ start ≤ length (now list) ⌝ }
-    requires { ⌜ framed collection (unhex (lineFrom (now list) start)) ≡ true ⌝ }
+    requires { ⌜ framed collectionFrame (unhex (lineFrom (now list) start)) ≡ true ⌝ }
     ensures { λ r. ⌜ r .0 ≡ total (λ x. x .cents) (putIf own (collectionAt (now (list .entry)) start) []) ⌝ }
 {
     if own {
@@ -36,7 +36,7 @@ fn own_cents(list: &[u8], start: usize, own: bool) -> ControlSum
 // The transaction of the line that starts at a place, where it is one of the batch, else nothing.
 fn put_own(out: &mut [u8], at: usize, list: &[u8], start: usize, own: bool) -> usize
     requires { ⌜ start ≤ length (now list) ⌝ }
-    requires { ⌜ framed collection (unhex (lineFrom (now list) start)) ≡ true ⌝ }
+    requires { ⌜ framed collectionFrame (unhex (lineFrom (now list) start)) ≡ true ⌝ }
     requires { ⌜ at + 2300 < 2 ^ 32 ⌝ }
     ensures { λ r. ⌜ Wrote (now (out .entry)) (now (out .exit)) at r (gather transactionBytes (putIf own (collectionAt (now (list .entry)) start) [])) ⌝ }
     ensures { λ r. ⌜ r ≤ at + 2300 ⌝ }
@@ -51,7 +51,7 @@ fn put_own(out: &mut [u8], at: usize, list: &[u8], start: usize, own: bool) -> u
 // The terms of the line that starts at a place.
 fn put_terms_at(out: &mut [u8], at: usize, list: &[u8], start: usize) -> usize
     requires { ⌜ start ≤ length (now list) ⌝ }
-    requires { ⌜ framed collection (unhex (lineFrom (now list) start)) ≡ true ⌝ }
+    requires { ⌜ framed collectionFrame (unhex (lineFrom (now list) start)) ≡ true ⌝ }
     requires { ⌜ at + 400 < 2 ^ 32 ⌝ }
     ensures { λ r. ⌜ Wrote (now (out .entry)) (now (out .exit)) at r (termsBytes (collectionAt (now (list .entry)) start .terms)) ⌝ }
     ensures { λ r. ⌜ r ≤ at + 400 ⌝ }
@@ -62,7 +62,7 @@ fn put_terms_at(out: &mut [u8], at: usize, list: &[u8], start: usize) -> usize
 
 // The creditor, from the first line.
 fn put_creditor_at(out: &mut [u8], at: usize, list: &[u8]) -> usize
-    requires { ⌜ framed creditor (unhex (lineFrom (now list) 0)) ≡ true ⌝ }
+    requires { ⌜ framed creditorFrame (unhex (lineFrom (now list) 0)) ≡ true ⌝ }
     requires { ⌜ at + 1300 < 2 ^ 32 ⌝ }
     ensures { λ r. ⌜ Wrote (now (out .entry)) (now (out .exit)) at r (creditorBytes (creditorAt (now (list .entry)))) ⌝ }
     ensures { λ r. ⌜ r ≤ at + 1300 ⌝ }
@@ -104,7 +104,7 @@ pub fn count_of(labels: &[u64], batch: u64) -> NumberOfTransactions
 
 // The cents of the batch's collections.
 pub fn cents_of(list: &[u8], table: &[usize], labels: &[u64], batch: u64) -> ControlSum
-    requires { ⌜ Ready (now list) (now table) (now labels) ⌝ }
+    requires { ⌜ ListReady (now list) (now table) (now labels) ⌝ }
     ensures { λ r. ⌜ r .0 ≡ total (λ x. x .cents) (pick batch (now (labels .entry)) (listed (now (list .entry)))) ⌝ }
     ensures { λ r. ⌜ r .0 ≤ mostCents * length (now (labels .entry)) ⌝ }
 {
@@ -126,7 +126,7 @@ fn put_transactions(
     labels: &[u64],
     batch: u64,
 ) -> usize
-    requires { ⌜ Ready (now list) (now table) (now labels) ⌝ }
+    requires { ⌜ ListReady (now list) (now table) (now labels) ⌝ }
     requires { ⌜ at + 2300 * length (now labels) < 2 ^ 32 ⌝ }
     ensures { λ r. ⌜ Wrote (now (out .entry)) (now (out .exit)) at r (gather transactionBytes (pick batch (now (labels .entry)) (listed (now (list .entry))))) ⌝ }
     ensures { λ r. ⌜ r ≤ at + 2300 * length (now (labels .entry)) ⌝ }
@@ -151,7 +151,7 @@ pub fn put_batch(
     labels: &[u64],
     batch: u64,
 ) -> usize
-    requires { ⌜ Batch (now list) (now table) (now labels) batch ⌝ }
+    requires { ⌜ BatchReady (now list) (now table) (now labels) batch ⌝ }
     requires { ⌜ at + batchRoom < 2 ^ 32 ⌝ }
     ensures { λ r. ⌜ Wrote (now (out .entry)) (now (out .exit)) at r (batchBytes (creditorAt (now (list .entry))) (batch + 1) (pick batch (now (labels .entry)) (listed (now (list .entry))))) ⌝ }
     ensures { λ r. ⌜ r ≤ at + batchRoom ⌝ }

@@ -16,7 +16,7 @@ use borrow.Author.Tests.{eq-eqb, ne-eqb}
 use Rattle.laws.specs.Lists.{one, putIf, total, count, gather}
 use Rattle.laws.proofs.Counts.{total-ext, count-append, count-map, length-keep}
 use Rattle.bundle.specs.Bundle.{firsts, cut, pieces, ceil, Decides, having, bundle, need}
-use Rattle.bundle.specs.Labels.{unless, sizeOf, base, labelsFrom, labels, pick}
+use Rattle.bundle.specs.Labels.{zeroIf, sizeOf, base, labelsFrom, labels, pick}
 use Rattle.bundle.proofs.Equality.{eq-cases, eq-true, eq-false}
 use Rattle.bundle.proofs.Firsts.{firsts-once}
 use Rattle.bundle.proofs.Ceil.{div-lt-ceil}
@@ -166,7 +166,7 @@ module _ {K : Type 0} (eq : K → K → Bool) (d : Decides eq) (size : K → ℕ
   apart (u ∷ ts) h a b = go (eq k u) (eq t u) (d .right k u) (d .right t u) h (λ g. apart ts g a b)
     where
       go : (z y : Bool) → (T z → k ≡ u) → (T y → t ≡ u) → 1 ≤ one y + count (eq t) ts → (1 ≤ count (eq t) ts → base eq size k ts + r ≢ base eq size t ts + m)
-          → unless z (size u + base eq size k ts) + r ≢ unless y (size u + base eq size t ts) + m
+          → zeroIf z (size u + base eq size k ts) + r ≢ zeroIf y (size u + base eq size t ts) + m
       go true true e f g ih = absurd (apt (e tt ∙ sym (f tt)))
       go true false e f g ih = let q : size k ≡ size u = ap size (e tt) in omega arith
       go false true e f g ih = let q : size t ≡ size u = ap size (f tt) in omega arith

@@ -18,7 +18,7 @@ use Rattle.laws.specs.Lists.{one, putIf, total, count, keep, All, gather}
 use Rattle.laws.proofs.Tests.{true-T, same-test}
 use Rattle.laws.proofs.Counts.{total-ext, count-map, map-id, map-keep, All-kept}
 use Rattle.bundle.specs.Bundle.{firsts, pieces, ceil, Decides, bundle, need, Fits}
-use Rattle.bundle.specs.Labels.{unless, firstAt, codes, needOf, labelsOf, pick, upFrom, upTo}
+use Rattle.bundle.specs.Labels.{zeroIf, firstAt, codes, needOf, labelsOf, pick, upFrom, upTo}
 use Rattle.bundle.proofs.Equality.{eq-true, numbers-decide}
 use Rattle.bundle.proofs.Batches.{batches-fit, batches-number, in-list}
 use Rattle.bundle.proofs.ByLabel.{by-label}
@@ -31,7 +31,7 @@ module _ {K : Type 0} (eq : K → K → Bool) (d : Decides eq) where
   at-first e k [] h = absurd (omega arith)
   at-first e k (j ∷ ks) h = go (eq k j) (d .right k j) h (at-first e k ks)
     where
-      go : (z : Bool) → (T z → k ≡ j) → 1 ≤ one z + count (eq k) ks → (1 ≤ count (eq k) ks → getD ks (firstAt eq k ks) e ≡ k) → getD (j ∷ ks) (unless z (suc (firstAt eq k ks))) e ≡ k
+      go : (z : Bool) → (T z → k ≡ j) → 1 ≤ one z + count (eq k) ks → (1 ≤ count (eq k) ks → getD ks (firstAt eq k ks) e ≡ k) → getD (j ∷ ks) (zeroIf z (suc (firstAt eq k ks))) e ≡ k
       go true f h ih = sym (f tt)
       go false f h ih = ih (omega arith)
 

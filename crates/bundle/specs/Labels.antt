@@ -16,16 +16,16 @@ use lib.ListN.{length, take, getD}
 use Rattle.laws.specs.Lists.{putIf, count}
 use Rattle.bundle.specs.Bundle.{firsts, ceil, need}
 
-abbrev pub unless : Bool → ℕ → ℕ
-unless true n = 0
-unless false n = n
+abbrev pub zeroIf : Bool → ℕ → ℕ
+zeroIf true n = 0
+zeroIf false n = n
 
 -- ─── codes ───
 
 -- the first place at which k stands
 abbrev pub firstAt : {K : Type 0} → (K → K → Bool) → K → List K → ℕ
 firstAt eq k [] = 0
-firstAt eq k (j ∷ js) = unless (eq k j) (suc (firstAt eq k js))
+firstAt eq k (j ∷ js) = zeroIf (eq k j) (suc (firstAt eq k js))
 
 abbrev pub codes : {X K : Type 0} → (X → K) → (K → K → Bool) → List X → List ℕ
 codes terms eq xs = map (λ x. firstAt eq (terms x) (map terms xs)) xs
@@ -39,7 +39,7 @@ module _ {K : Type 0} (eq : K → K → Bool) where
   -- the number of the first batch of k: the batches of the terms js, in this order, up to k
   abbrev pub base : (K → ℕ) → K → List K → ℕ
   base size k [] = 0
-  base size k (j ∷ js) = unless (eq k j) (size j + base size k js)
+  base size k (j ∷ js) = zeroIf (eq k j) (size j + base size k js)
 
   -- the first batch of its terms, and one more for every c collections of these terms before it
   abbrev pub labelsFrom : (K → ℕ) → ℕ → List K → List K → List ℕ

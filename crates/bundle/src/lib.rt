@@ -6,11 +6,11 @@ ghost use lib.Dec.{eqb};
 ghost use lib.ListN.{length};
 ghost use Rattle.bundle.specs.Bundle.{ceil};
 ghost use Rattle.bundle.specs.Labels.{needOf, sizeOf, labelsOf, Marked};
-ghost use Rattle.bundle.specs.Limits.{Within};
+ghost use Rattle.bundle.specs.Limits.{InLimits};
 
 // A number of collections divided by the ceiling, rounded up.
 fn rounded_up(collections: u64, ceiling: u64) -> u64
-    requires { ⌜ Within collections ceiling ⌝ }
+    requires { ⌜ InLimits collections ceiling ⌝ }
     ensures { λ r. ⌜ r ≡ ceil collections ceiling ⌝ }
 {
     (collections + (ceiling - 1)) / ceiling
@@ -18,7 +18,7 @@ fn rounded_up(collections: u64, ceiling: u64) -> u64
 
 // Writes the batch's number for each collection of the terms of this code: `first`, and one more after every ceiling's worth. Answers the next free number.
 fn mark(codes: &[u64], code: u64, ceiling: u64, first: u64, labels: &mut [u64]) -> u64
-    requires { do ⌜ Within (← ⟦codes.len()⟧) ceiling ⌝ }
+    requires { do ⌜ InLimits (← ⟦codes.len()⟧) ceiling ⌝ }
     requires { do ⌜ first ≤ (← ⟦codes.len()⟧) ⌝ }
     requires { do ⌜ (← ⟦labels.len()⟧) ≡ (← ⟦codes.len()⟧) ⌝ }
     ensures { λ r. ⌜ r ≡ first + sizeOf eqb ceiling (now (codes .entry)) code ⌝ }
@@ -39,7 +39,7 @@ fn mark(codes: &[u64], code: u64, ceiling: u64, first: u64, labels: &mut [u64]) 
 // Writes the number of each collection's batch, from 0, and answers how many batches are needed.
 // Each terms is taken in order of first appearance; its collections, in list order, are cut after every ceiling's worth.
 pub fn label(codes: &[u64], ceiling: u64, labels: &mut [u64]) -> u64
-    requires { do ⌜ Within (← ⟦codes.len()⟧) ceiling ⌝ }
+    requires { do ⌜ InLimits (← ⟦codes.len()⟧) ceiling ⌝ }
     requires { do ⌜ (← ⟦labels.len()⟧) ≡ (← ⟦codes.len()⟧) ⌝ }
     ensures { λ r. ⌜ r ≡ needOf ceiling (now (codes .entry)) ⌝ }
     ensures { λ _. ⌜ now (labels .exit) ≡ labelsOf ceiling (now (codes .entry)) ⌝ }

@@ -14,7 +14,7 @@ use lib.Dec.{T, eqb, leb, eqb→eq, leb→le}
 use Rattle.laws.specs.Lists.{gather}
 use Rattle.laws.proofs.Below.{each}
 use Rattle.laws.proofs.Tests.{eqb-cases, and-l, and-r, and-both, T-true, T-false}
-use Rattle.carries.specs.Contents.{Content, is, before, parts, all}
+use Rattle.carries.specs.Contents.{Content, is, before, parts, allOf}
 
 -- ─── tests of each ───
 
@@ -52,11 +52,11 @@ above-without k n h l cs = each-imp (above k) (without n) cs one
 -- ─── elements and parts ───
 
 module _ (n : ℕ) where
-  pub all-append : (a b : List Content) → all n (a ++ b) ≡ all n a ++ all n b
+  pub all-append : (a b : List Content) → allOf n (a ++ b) ≡ allOf n a ++ allOf n b
   all-append [] b = refl
   all-append (c ∷ a) b = go (is n c) (all-append a b)
     where
-      go : (z : Bool) → all n (a ++ b) ≡ all n a ++ all n b → elim z [ true ↦ c ∷ all n (a ++ b) | false ↦ all n (a ++ b) ] ≡ elim z [ true ↦ c ∷ all n a | false ↦ all n a ] ++ all n b
+      go : (z : Bool) → allOf n (a ++ b) ≡ allOf n a ++ allOf n b → elim z [ true ↦ c ∷ allOf n (a ++ b) | false ↦ allOf n (a ++ b) ] ≡ elim z [ true ↦ c ∷ allOf n a | false ↦ allOf n a ] ++ allOf n b
       go true e = ap {B = List Content} (λ (l : List Content). c ∷ l) e
       go false e = e
 
@@ -67,8 +67,8 @@ module _ (n : ℕ) where
   nor-behind : (c : Content) (cs : List Content) → T (each (without n) (c ∷ cs)) → T (each (without n) cs)
   nor-behind c cs t = and-r (without n c) (each (without n) cs) t
 
-  all-no : (c : Content) (cs : List Content) → is n c ≡ false → all n (c ∷ cs) ≡ all n cs
-  all-no c cs e = ap {B = List Content} (λ (z : Bool). elim z [ true ↦ c ∷ all n cs | false ↦ all n cs ]) e
+  all-no : (c : Content) (cs : List Content) → is n c ≡ false → allOf n (c ∷ cs) ≡ allOf n cs
+  all-no c cs e = ap {B = List Content} (λ (z : Bool). elim z [ true ↦ c ∷ allOf n cs | false ↦ allOf n cs ]) e
 
   before-is : (c : Content) (cs : List Content) (z : Bool) → is n c ≡ z → before n (c ∷ cs) ≡ elim z [ true ↦ [] | false ↦ c ∷ before n cs ]
   before-is c cs z e = ap {B = List Content} (λ (z : Bool). elim z [ true ↦ [] | false ↦ c ∷ before n cs ]) e
@@ -76,7 +76,7 @@ module _ (n : ℕ) where
   parts-is : (c : Content) (cs : List Content) (z : Bool) → is n c ≡ z → parts n (c ∷ cs) ≡ elim z [ true ↦ (c ∷ before n cs) ∷ parts n cs | false ↦ parts n cs ]
   parts-is c cs z e = ap {B = List (List Content)} (λ (z : Bool). elim z [ true ↦ (c ∷ before n cs) ∷ parts n cs | false ↦ parts n cs ]) e
 
-  pub all-without : (cs : List Content) → T (each (without n) cs) → all n cs ≡ []
+  pub all-without : (cs : List Content) → T (each (without n) cs) → allOf n cs ≡ []
   all-without [] t = refl
   all-without (c ∷ cs) t = all-no c cs (not-it c cs t) ∙ all-without cs (nor-behind c cs t)
 

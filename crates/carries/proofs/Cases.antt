@@ -11,7 +11,7 @@ use Rattle.tree.specs.Reader.{kids, read, Res, Res.done, Res.stuck}
 use Rattle.tree.specs.Pain008.{Document, declaration}
 use Rattle.tree.proofs.Pain008.{read-all}
 use Rattle.message.specs.Message.{tell}
-use Rattle.listed.specs.Listed.{Terms, Collection}
+use Rattle.collections.specs.Listed.{Terms, Collection}
 use Rattle.carries.specs.Carried.{carriedFrom, carriedBy}
 
 -- ─── from the bytes ───

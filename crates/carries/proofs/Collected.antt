@@ -19,15 +19,15 @@ use Rattle.laws.specs.Sections.{lastOr}
 use Rattle.laws.proofs.Below.{each}
 use Rattle.put.specs.Numerals.{decimal, euros}
 use Rattle.text.specs.declared.Rule.the-variants.{Amount, Count, Sum, Date, Scheme, Sequence}
-use Rattle.text.specs.Rules.{told, judged}
+use Rattle.text.specs.Rules.{numberTold, judged}
 use Rattle.tree.specs.Parts as part
 use Rattle.bundle.specs.Bundle.{number}
-use Rattle.listed.specs.Listed.{Terms, Collection, Creditor}
-use Rattle.listed.specs.Good.{GoodTerms, GoodCollection}
+use Rattle.collections.specs.Listed.{Terms, Collection, Creditor}
+use Rattle.collections.specs.Good.{GoodTerms, GoodCollection}
 use Rattle.written.specs.Written.{schemeWord, sequenceWord, termsOf}
 use Rattle.written.proofs.Numerals.{amount-good, scheme-good, sequence-good}
-use Rattle.carries.specs.Contents.{Content, parts, all, the, worth, textOf, termsIn, collectionIn, collectionsIn, cents}
-use Rattle.carries.specs.Held.{box, txt, bankHeld, remittanceHeld, debtor, transactionHeld, scheme, headHeld, batchHeld, messageHeld}
+use Rattle.carries.specs.Contents.{Content, parts, allOf, the, worth, textOf, termsIn, collectionIn, collectionsIn, totalCents}
+use Rattle.carries.specs.Held.{box, txt, bankHeld, remittanceHeld, debtor, transactionHeld, schemeHeld, headHeld, batchHeld, messageHeld}
 use Rattle.carries.proofs.Among.{without, above, each-append, each-gather, above-without, all-without, parts-without, Piece, parts-gather}
 
 -- ─── a transaction ───
@@ -74,8 +74,8 @@ module _ (x : Collection) where
   pub collection-held : GoodCollection x → collectionIn (x .terms) (transactionHeld x) ≡ x
   collection-held g = go (x .bank) (x .remittance)
     where
-      e : told (judged Amount (euros (x .cents))) ≡ x .cents
-      e = ap told (amount-good (x .cents) (g .least) (g .most))
+      e : numberTold (judged Amount (euros (x .cents))) ≡ x .cents
+      e = ap numberTold (amount-good (x .cents) (g .least) (g .most))
 
       go : (b r : Bytes) → collectionIn (x .terms) (transactionHeld (made (x .cents) b r)) ≡ made (x .cents) b r
       go [] [] = ap (λ (c : ℕ). made c [] []) e
@@ -92,41 +92,41 @@ collections-held k (x ∷ xs) a g =
 -- ─── a batch ───
 
 -- the creditor's bank and what follows it play no part
-quiet : (k : ℕ) (b i : Bytes) → T (each (above k) (bankHeld 0 b ++ scheme i))
+quiet : (k : ℕ) (b i : Bytes) → T (each (above k) (bankHeld 0 b ++ schemeHeld i))
 quiet k [] i = tt
 quiet k (c ∷ b) i = tt
 
 module _ (cr : Creditor) (n : ℕ) (xs : List Collection) where
   abbrev behind : List Content
-  behind = (bankHeld 0 (cr .bank) ++ scheme (cr .identifier)) ++ gather transactionHeld xs
+  behind = (bankHeld 0 (cr .bank) ++ schemeHeld (cr .identifier)) ++ gather transactionHeld xs
 
   pub behind-without : (p : ℕ) → 1 ≤ p → p < 9 → T (each (without p) behind)
   behind-without p h l =
-      each-append (without p) (bankHeld 0 (cr .bank) ++ scheme (cr .identifier)) (gather transactionHeld xs)
-      (above-without 9 p h l (bankHeld 0 (cr .bank) ++ scheme (cr .identifier)) (quiet 9 (cr .bank) (cr .identifier)))
+      each-append (without p) (bankHeld 0 (cr .bank) ++ schemeHeld (cr .identifier)) (gather transactionHeld xs)
+      (above-without 9 p h l (bankHeld 0 (cr .bank) ++ schemeHeld (cr .identifier)) (quiet 9 (cr .bank) (cr .identifier)))
       (each-gather (without p) transactionHeld xs (λ x. transaction-without x p h l))
 
   -- where the head has one element of a part below that of a transaction, that is the one of the batch
-  one-found : (p : ℕ) → 1 ≤ p → p < 9 → (c : Content) → lastOr none (c ∷ all p behind) ≡ some c
+  one-found : (p : ℕ) → 1 ≤ p → p < 9 → (c : Content) → lastOr none (c ∷ allOf p behind) ≡ some c
   one-found p h l c = ap (λ (cs : List Content). lastOr none (c ∷ cs)) (all-without p behind (behind-without p h l))
 
   pub count-found : the part.batchCount (batchHeld cr (n, xs)) ≡ some (txt part.batchCount Count (decimal (length xs)))
   count-found = one-found 4 (omega arith) (omega arith) (txt part.batchCount Count (decimal (length xs)))
 
-  pub sum-found : the part.batchSum (batchHeld cr (n, xs)) ≡ some (txt part.batchSum Sum (euros (cents xs)))
-  sum-found = one-found 5 (omega arith) (omega arith) (txt part.batchSum Sum (euros (cents xs)))
+  pub sum-found : the part.batchSum (batchHeld cr (n, xs)) ≡ some (txt part.batchSum Sum (euros (totalCents xs)))
+  sum-found = one-found 5 (omega arith) (omega arith) (txt part.batchSum Sum (euros (totalCents xs)))
 
   terms-held : GoodTerms (termsOf xs) → termsIn (batchHeld cr (n, xs)) ≡ termsOf xs
   terms-held g = λ i. record {
-    scheme = (ap worth (one-found 6 (omega arith) (omega arith) (txt part.scheme Scheme (schemeWord (termsOf xs .scheme)))) ∙ ap told (scheme-good (termsOf xs .scheme) (g .scheme))) i;
-    sequence = (ap worth (one-found 7 (omega arith) (omega arith) (txt part.sequence Sequence (sequenceWord (termsOf xs .sequence)))) ∙ ap told (sequence-good (termsOf xs .sequence) (g .sequence))) i;
+    scheme = (ap worth (one-found 6 (omega arith) (omega arith) (txt part.scheme Scheme (schemeWord (termsOf xs .scheme)))) ∙ ap numberTold (scheme-good (termsOf xs .scheme) (g .scheme))) i;
+    sequence = (ap worth (one-found 7 (omega arith) (omega arith) (txt part.sequence Sequence (sequenceWord (termsOf xs .sequence)))) ∙ ap numberTold (sequence-good (termsOf xs .sequence) (g .sequence))) i;
     date = ap textOf (one-found 8 (omega arith) (omega arith) (txt part.collectionDate Date (termsOf xs .date))) i;
   }
 
   pub transactions-held : parts part.transaction (batchHeld cr (n, xs)) ≡ map transactionHeld xs
   transactions-held =
       parts-without part.transaction (headHeld cr n xs) (gather transactionHeld xs)
-      (above-without 10 9 (omega arith) (omega arith) (bankHeld 0 (cr .bank) ++ scheme (cr .identifier)) (quiet 10 (cr .bank) (cr .identifier)))
+      (above-without 10 9 (omega arith) (omega arith) (bankHeld 0 (cr .bank) ++ schemeHeld (cr .identifier)) (quiet 10 (cr .bank) (cr .identifier)))
       ∙ parts-gather part.transaction transactionHeld transaction-piece xs
 
   pub batch-collections : GoodTerms (termsOf xs) → All (λ x. x .terms ≡ termsOf xs) xs → All GoodCollection xs → collectionsIn (batchHeld cr (n, xs)) ≡ xs

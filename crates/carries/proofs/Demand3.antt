@@ -19,14 +19,14 @@ use Rattle.tree.specs.Form.{Message}
 use Rattle.tree.specs.Pain008.{Document}
 use Rattle.bundle.specs.Bundle.{Same, Fits, cut, pieces, having, allTerms, bundle, need}
 use Rattle.bundle.proofs.Batches.{batches-fit, batches-same, batches-number}
-use Rattle.listed.specs.Listed.{Terms, sameTerms, Collection, Creditor}
-use Rattle.listed.specs.Good.{GoodCollection, GoodCreditor}
-use Rattle.listed.proofs.Terms.{terms-decide}
+use Rattle.collections.specs.Listed.{Terms, sameTerms, Collection, Creditor}
+use Rattle.collections.specs.Good.{GoodCollection, GoodCreditor}
+use Rattle.collections.proofs.Terms.{terms-decide}
 use Rattle.written.specs.Written.{termsOf, messageOf}
 use Rattle.carries.specs.Carried.{carriedBy, CarriesList}
 use Rattle.carries.proofs.Sums.{same-length}
 use Rattle.carries.proofs.Fewest.{fewest-batches, none-exists}
-use Rattle.carries.proofs.Written.{GoodBatch, Ready, written-accepted, written-carries}
+use Rattle.carries.proofs.Written.{GoodBatch, MessageReady, written-accepted, written-carries}
 
 -- ─── what holds of each collection holds in each batch ───
 
@@ -76,7 +76,7 @@ module _ (c : ℕ) (xs : List Collection) (h : 1 ≤ c) where
   message-fewest m l = rw (batches-number termsIn sameTerms terms-decide c xs h) (fewest-batches m c xs h l)
 
   module _ (cr : Creditor) (k : GoodCreditor cr) (g : All GoodCollection xs) (some : 1 ≤ length xs) (most : length xs ≤ mostCollections) where
-    pub bundle-ready : need termsIn sameTerms c xs ≤ mostBatches → Ready cr batches
+    pub bundle-ready : need termsIn sameTerms c xs ≤ mostBatches → MessageReady cr batches
     bundle-ready few =
         let e : length (concat batches) ≡ length xs = same-length (concat batches) xs (batches-same termsIn sameTerms terms-decide c xs h) in record {
           creditor = k;
@@ -93,7 +93,7 @@ module _ (c : ℕ) (xs : List Collection) (h : 1 ≤ c) where
 
     pub message-carries : need termsIn sameTerms c xs ≤ mostBatches → CarriesList (messageOf cr batches) c xs
     message-carries few =
-        let r : Ready cr batches = bundle-ready few in
+        let r : MessageReady cr batches = bundle-ready few in
         let e : carriedBy (messageOf cr batches) ≡ batches = message-carried few in record {
           accepted = written-accepted cr batches r;
           same = subst⁻¹ (λ (bs : List (List Collection)). Same (concat bs) xs) e (batches-same termsIn sameTerms terms-decide c xs h);

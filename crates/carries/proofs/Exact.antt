@@ -21,11 +21,11 @@ use Rattle.tree.specs.Parts as part
 use Rattle.message.specs.declared.Told.{Told}
 use Rattle.message.specs.Message as said
 use Rattle.message.specs.Verdict.{totalsOf}
-use Rattle.checked.specs.Check.{saidBy}
-use Rattle.checked.specs.Demand2.{Agrees, AllAgree, InProfile}
-use Rattle.listed.specs.Listed.{Terms, Collection}
+use Rattle.promise.specs.Check.{saidBy}
+use Rattle.promise.specs.Demand2.{Agrees, AllAgree, InProfile}
+use Rattle.collections.specs.Listed.{Terms, Collection}
 use Rattle.carries.specs.Carried.{termsFrom, collectionFrom, carriedIn, carriedBy}
-use Rattle.carries.specs.Contents.{contents, contentOf, parts, all, the, carriedOf, collectionsIn, ProfileIn, Agreed, cents, BatchAgreed, AgreedIn}
+use Rattle.carries.specs.Contents.{contents, contentOf, parts, allOf, the, carriedOf, collectionsIn, ProfileIn, Agreed, totalCents, BatchAgreed, AgreedIn}
 use Rattle.carries.proofs.Fewest.{carried-batches}
 use Rattle.carries.proofs.Said.{said-contents}
 use Rattle.carries.proofs.Finds.{seen, seenIf, all-seen, the-seen, parts-seen, in-seen, carried-seen}
@@ -33,29 +33,29 @@ use Rattle.carries.proofs.Finds.{seen, seenIf, all-seen, the-seen, part
 module _ (s : Bytes) where
   -- ─── counts and cents ───
 
-  pub count-carried : (p : List Told) → length (carriedIn s p) ≡ said.count (said.batchOf p)
+  pub count-carried : (p : List Told) → length (carriedIn s p) ≡ said.exactCount (said.batchOf p)
   count-carried p =
       length-map (said.parts part.transaction p) (collectionFrom s (termsFrom s p)) ∙ sym (length-map (said.parts part.transaction p) said.transactionOf)
 
-  cents-of : (k : Terms) (ps : List (List Told)) → cents (map (collectionFrom s k) ps) ≡ total said.centsOf (map said.transactionOf ps)
+  cents-of : (k : Terms) (ps : List (List Told)) → totalCents (map (collectionFrom s k) ps) ≡ total said.centsOf (map said.transactionOf ps)
   cents-of k [] = refl
   cents-of k (p ∷ ps) = ap (λ (n : ℕ). said.worthOf (said.the part.amount p) + n) (cents-of k ps)
 
-  pub sum-carried : (p : List Told) → cents (carriedIn s p) ≡ said.sum (said.batchOf p)
+  pub sum-carried : (p : List Told) → totalCents (carriedIn s p) ≡ said.exactSum (said.batchOf p)
   sum-carried p = cents-of (termsFrom s p) (said.parts part.transaction p)
 
-  pub counts-carried : (ps : List (List Told)) → length (concat (map (carriedIn s) ps)) ≡ total said.count (map said.batchOf ps)
+  pub counts-carried : (ps : List (List Told)) → length (concat (map (carriedIn s) ps)) ≡ total said.exactCount (map said.batchOf ps)
   counts-carried [] = refl
   counts-carried (p ∷ ps) = length-append (carriedIn s p) (concat (map (carriedIn s) ps)) ∙ ap₂ (λ (a b : ℕ). a + b) (count-carried p) (counts-carried ps)
 
-  pub sums-carried : (ps : List (List Told)) → cents (concat (map (carriedIn s) ps)) ≡ total said.sum (map said.batchOf ps)
+  pub sums-carried : (ps : List (List Told)) → totalCents (concat (map (carriedIn s) ps)) ≡ total said.exactSum (map said.batchOf ps)
   sums-carried [] = refl
   sums-carried (p ∷ ps) = total-append (λ x. x .cents) (carriedIn s p) (concat (map (carriedIn s) ps)) ∙ ap₂ (λ (a b : ℕ). a + b) (sum-carried p) (sums-carried ps)
 
   -- ─── the profile ───
 
-  length-all : (n : ℕ) (ts : List Told) → length (said.all n ts) ≡ length (all n (seen s ts))
-  length-all n ts = sym (length-map (said.all n ts) (contentOf s)) ∙ ap length (all-seen s n ts)
+  length-all : (n : ℕ) (ts : List Told) → length (said.allOf n ts) ≡ length (allOf n (seen s ts))
+  length-all n ts = sym (length-map (said.allOf n ts) (contentOf s)) ∙ ap length (all-seen s n ts)
 
   texts-seen : (ts : List Told) → All (λ t. T (good (t .judged))) (seen s ts) → All (λ t. T (good (t .judged))) ts
   texts-seen [] h = tt
@@ -78,12 +78,12 @@ module _ (s : Bytes) where
   agrees-seen n ts a b e h = agrees-if (said.the n ts) b (rw (the-seen s n ts, ← e) h)
 
   batches-agree : (ps : List (List Told)) → All BatchAgreed (map (seen s) ps)
-      → All (λ b. Agrees (b .declaredCount) (said.count b) × Agrees (b .declaredSum) (said.sum b)) (map said.batchOf ps)
+      → All (λ b. Agrees (b .declaredCount) (said.exactCount b) × Agrees (b .declaredSum) (said.exactSum b)) (map said.batchOf ps)
   batches-agree [] h = tt
   batches-agree (p ∷ ps) h = (
     (
-      agrees-seen part.batchCount p (length (collectionsIn (seen s p))) (said.count (said.batchOf p)) (ap length (sym (in-seen s p)) ∙ count-carried p) (h .0 .count),
-      agrees-seen part.batchSum p (cents (collectionsIn (seen s p))) (said.sum (said.batchOf p)) (ap cents (sym (in-seen s p)) ∙ sum-carried p) (h .0 .sum),
+      agrees-seen part.batchCount p (length (collectionsIn (seen s p))) (said.exactCount (said.batchOf p)) (ap length (sym (in-seen s p)) ∙ count-carried p) (h .0 .count),
+      agrees-seen part.batchSum p (totalCents (collectionsIn (seen s p))) (said.exactSum (said.batchOf p)) (ap totalCents (sym (in-seen s p)) ∙ sum-carried p) (h .0 .sum),
     ),
     batches-agree ps (h .1),
   )
@@ -92,17 +92,17 @@ module _ (s : Bytes) where
   agree-seen ts h = record {
     batches = batches-agree (said.parts part.batch ts) (rw (parts-seen s part.batch ts) (h .batches));
     messageCount =
-        agrees-seen part.messageCount ts (length (concat (carriedOf (seen s ts)))) (total said.count (said.batchesOf ts))
+        agrees-seen part.messageCount ts (length (concat (carriedOf (seen s ts)))) (total said.exactCount (said.batchesOf ts))
         (ap (λ (l : List (List Collection)). length (concat l)) (sym (carried-seen s ts)) ∙ counts-carried (said.parts part.batch ts)) (h .messageCount);
     messageSum =
-        agrees-seen part.messageSum ts (cents (concat (carriedOf (seen s ts)))) (total said.sum (said.batchesOf ts))
-        (ap (λ (l : List (List Collection)). cents (concat l)) (sym (carried-seen s ts)) ∙ sums-carried (said.parts part.batch ts)) (h .messageSum);
+        agrees-seen part.messageSum ts (totalCents (concat (carriedOf (seen s ts)))) (total said.exactSum (said.batchesOf ts))
+        (ap (λ (l : List (List Collection)). totalCents (concat l)) (sym (carried-seen s ts)) ∙ sums-carried (said.parts part.batch ts)) (h .messageSum);
   }
 
 -- ─── messages ───
 
 abbrev pub totalsIn : List (List Collection) → Totals
-totalsIn bs = record { batches = length bs; transactions = record { 0 = length (concat bs) }; cents = record { 0 = cents (concat bs) } }
+totalsIn bs = record { batches = length bs; transactions = record { 0 = length (concat bs) }; cents = record { 0 = totalCents (concat bs) } }
 
 pub same-totals : (a a′ b b′ c c′ : ℕ) → a ≡ a′ → b ≡ b′ → c ≡ c′
     → _≡_ {A = Totals} (record { batches = a; transactions = record { 0 = b }; cents = record { 0 = c } }) (record { batches = a′; transactions = record { 0 = b′ }; cents = record { 0 = c′ } })
@@ -114,8 +114,8 @@ totals-carried m =
     let s = message declaration m in
     let ps = said.parts part.batch (saidBy m) in
     sym (
-    same-totals (length (carriedBy m)) (length (said.batchesOf (saidBy m))) (length (concat (carriedBy m))) (total said.count (said.batchesOf (saidBy m))) (cents (concat (carriedBy m)))
-    (total said.sum (said.batchesOf (saidBy m))) (carried-batches m) (counts-carried s ps) (sums-carried s ps))
+    same-totals (length (carriedBy m)) (length (said.batchesOf (saidBy m))) (length (concat (carriedBy m))) (total said.exactCount (said.batchesOf (saidBy m))) (totalCents (concat (carriedBy m)))
+    (total said.exactSum (said.batchesOf (saidBy m))) (carried-batches m) (counts-carried s ps) (sums-carried s ps))
 
 pub profile-contents : (m : Message Document) → ProfileIn (contents (m .body) []) → InProfile (saidBy m)
 profile-contents m h = profile-seen (message declaration m) (saidBy m) (rw (said-contents m) h)

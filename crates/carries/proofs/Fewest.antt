@@ -17,11 +17,11 @@ use Rattle.tree.specs.Pain008.{Document, declaration}
 use Rattle.tree.specs.Parts as part
 use Rattle.message.specs.declared.Told.{Told}
 use Rattle.message.specs.Message.{parts, batchOf, batchesOf}
-use Rattle.checked.specs.Check.{saidBy}
+use Rattle.promise.specs.Check.{saidBy}
 use Rattle.bundle.specs.Bundle.{Fits, need}
 use Rattle.bundle.proofs.Fewest.{fewest}
-use Rattle.listed.specs.Listed.{Terms, sameTerms, Collection}
-use Rattle.listed.proofs.Terms.{terms-decide}
+use Rattle.collections.specs.Listed.{Terms, sameTerms, Collection}
+use Rattle.collections.proofs.Terms.{terms-decide}
 use Rattle.carries.specs.Carried.{termsFrom, collectionFrom, carriedIn, carriedBy, Accepted, CarriesList}
 
 -- ─── batches ───

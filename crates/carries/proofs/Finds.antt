@@ -13,10 +13,10 @@ use Rattle.tree.specs.Pain008.{Document, declaration}
 use Rattle.tree.specs.Parts as part
 use Rattle.message.specs.declared.Told.{Told}
 use Rattle.message.specs.Message as said
-use Rattle.checked.specs.Check.{saidBy}
-use Rattle.listed.specs.Listed.{Terms, Collection}
+use Rattle.promise.specs.Check.{saidBy}
+use Rattle.collections.specs.Listed.{Terms, Collection}
 use Rattle.carries.specs.Carried.{textAt, termsBy, collectionBy, termsFrom, collectionFrom, carriedIn, carriedBy}
-use Rattle.carries.specs.Contents.{Content, contents, contentOf, parts, all, the, worth, textOf, termsIn, collectionIn, collectionsIn, carriedOf}
+use Rattle.carries.specs.Contents.{Content, contents, contentOf, parts, allOf, the, worth, textOf, termsIn, collectionIn, collectionsIn, carriedOf}
 use Rattle.carries.proofs.Said.{said-contents}
 
 module _ (s : Bytes) where
@@ -31,7 +31,7 @@ module _ (s : Bytes) where
   pub parts-seen : (n : ℕ) (ts : List Told) → map seen (said.parts n ts) ≡ parts n (seen ts)
   parts-seen n ts = map-parts (contentOf s) (λ c. c .part) n ts
 
-  pub all-seen : (n : ℕ) (ts : List Told) → seen (said.all n ts) ≡ all n (seen ts)
+  pub all-seen : (n : ℕ) (ts : List Told) → seen (said.allOf n ts) ≡ allOf n (seen ts)
   all-seen n ts = map-all (contentOf s) (λ c. c .part) n ts
 
   pub the-seen : (n : ℕ) (ts : List Told) → seenIf (said.the n ts) ≡ the n (seen ts)

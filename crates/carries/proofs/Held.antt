@@ -18,12 +18,12 @@ use Rattle.tree.specs.Form.{Elem, Tree}
 use Rattle.tree.specs.Pain008.{PmtInf}
 use Rattle.tree.specs.Parts as part
 use Rattle.bundle.specs.Bundle.{number}
-use Rattle.listed.specs.Listed.{Collection, Creditor}
+use Rattle.collections.specs.Listed.{Collection, Creditor}
 use Rattle.written.specs.Blocks.{more, several}
 use Rattle.written.specs.Written.{schemeWord, sequenceWord, bankTree, remittanceTree, transactionTree, noCollection, termsOf, batchTree, batchTrees, messageOf}
 use Rattle.written.proofs.Clean.{clean, keep-clean, Clean, CleanCreditor, decimal-clean, euros-clean, batch-id-clean, scheme-clean, sequence-clean}
-use Rattle.carries.specs.Contents.{Content, contents, kidContents, cents}
-use Rattle.carries.specs.Held.{box, txt, bankHeld, remittanceHeld, payment, debtor, transactionHeld, totals, scheme, batchHeld, opening, messageHeld}
+use Rattle.carries.specs.Contents.{Content, contents, kidContents, totalCents}
+use Rattle.carries.specs.Held.{box, txt, bankHeld, remittanceHeld, payment, debtor, transactionHeld, totalsHeld, schemeHeld, batchHeld, groupHeaderHeld, messageHeld}
 
 -- ─── one or more trees ───
 
@@ -77,22 +77,22 @@ length-number n (x ∷ xs) = ap suc (length-number (suc n) xs)
 
 module _ (cr : Creditor) (h : CleanCreditor cr) where
   pub batch-held : (n : ℕ) (xs : List Collection) → All Clean xs → 1 ≤ length xs → (r : List Content) → contents (batchTree cr n xs) r ≡ batchHeld cr (n, xs) ++ r
-  batch-held n xs k some r = held ∙ ap (λ (l : List Content). head ++ l) (regroup (bankHeld 0 (cr .bank)) (scheme (cr .identifier)) (gather transactionHeld xs) r)
+  batch-held n xs k some r = held ∙ ap (λ (l : List Content). head ++ l) (regroup (bankHeld 0 (cr .bank)) (schemeHeld (cr .identifier)) (gather transactionHeld xs) r)
     where
       head : List Content
-      head = totals (batchId n) (decimal (length xs)) (euros (cents xs)) (schemeWord (termsOf xs .scheme)) (sequenceWord (termsOf xs .sequence)) (termsOf xs .date) (cr .name) (cr .account)
+      head = totalsHeld (batchId n) (decimal (length xs)) (euros (totalCents xs)) (schemeWord (termsOf xs .scheme)) (sequenceWord (termsOf xs .sequence)) (termsOf xs .date) (cr .name) (cr .account)
 
-      held : contents (batchTree cr n xs) r ≡ head ++ (bankHeld 0 (cr .bank) ++ (scheme (cr .identifier) ++ (gather transactionHeld xs ++ r)))
-      held = λ i. totals (keep-clean (batchId n) (batch-id-clean n) i)
+      held : contents (batchTree cr n xs) r ≡ head ++ (bankHeld 0 (cr .bank) ++ (schemeHeld (cr .identifier) ++ (gather transactionHeld xs ++ r)))
+      held = λ i. totalsHeld (keep-clean (batchId n) (batch-id-clean n) i)
           (keep-clean (decimal (length xs)) (decimal-clean (length xs)) i)
-          (keep-clean (euros (cents xs)) (euros-clean (cents xs)) i)
+          (keep-clean (euros (totalCents xs)) (euros-clean (totalCents xs)) i)
           (keep-clean (schemeWord (termsOf xs .scheme)) (scheme-clean (termsOf xs .scheme)) i)
           (keep-clean (sequenceWord (termsOf xs .sequence)) (sequence-clean (termsOf xs .sequence)) i)
           (keep-clean (termsOf xs .date) (date-clean xs k) i)
           (keep-clean (cr .name) (h .name) i)
           (keep-clean (cr .account) (h .account) i)
           ++ bank-held 0 (cr .bank) (h .bank)
-          (scheme (keep-clean (cr .identifier) (h .identifier) i) ++ several-held transactionTree transactionHeld (transactionTree noCollection) xs some (each-held xs k) r i) i
+          (schemeHeld (keep-clean (cr .identifier) (h .identifier) i) ++ several-held transactionTree transactionHeld (transactionTree noCollection) xs some (each-held xs k) r i) i
 
   -- ─── the message ───
 
@@ -108,7 +108,7 @@ module _ (cr : Creditor) (h : CleanCreditor cr) where
   message-held bs some k = held ∙ ap (λ (l : List Content). head ++ l) (rest ∙ append-nil (gather (batchHeld cr) (number 1 bs)))
     where
       head : List Content
-      head = opening (cr .messageId) (cr .creationTime) (decimal (length (concat bs))) (euros (cents (concat bs))) (cr .initiatingName)
+      head = groupHeaderHeld (cr .messageId) (cr .creationTime) (decimal (length (concat bs))) (euros (totalCents (concat bs))) (cr .initiatingName)
 
       d : Tree PmtInf
       d = batchTree cr 1 []
@@ -119,8 +119,8 @@ module _ (cr : Creditor) (h : CleanCreditor cr) where
           ∙ several-held (λ q. batchTree cr (q .0) (q .1)) (batchHeld cr) d (number 1 bs) (omega (arith, length-number 1 bs)) (batches-held 1 bs k) []
 
       held : contents (messageOf cr bs .body) [] ≡ head ++ kidContents (several d (batchTrees cr 1 bs)) []
-      held = λ i. opening (keep-clean (cr .messageId) (h .messageId) i) (keep-clean (cr .creationTime) (h .creationTime) i)
+      held = λ i. groupHeaderHeld (keep-clean (cr .messageId) (h .messageId) i) (keep-clean (cr .creationTime) (h .creationTime) i)
           (keep-clean (decimal (length (concat bs))) (decimal-clean (length (concat bs))) i)
-          (keep-clean (euros (cents (concat bs))) (euros-clean (cents (concat bs))) i)
+          (keep-clean (euros (totalCents (concat bs))) (euros-clean (totalCents (concat bs))) i)
           (keep-clean (cr .initiatingName) (h .initiatingName) i)
           ++ kidContents (several d (batchTrees cr 1 bs)) []

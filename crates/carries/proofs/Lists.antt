@@ -18,19 +18,19 @@ use Rattle.tree.specs.Form.{Message}
 use Rattle.tree.specs.Pain008.{Document}
 use Rattle.message.specs.Message.{batchesOf}
 use Rattle.message.specs.Verdict.{Verdict, Verdict.accepted, totalsOf}
-use Rattle.checked.specs.Check.{saidBy, Checks}
-use Rattle.checked.proofs.Demand2.{demand-2-accepts}
+use Rattle.promise.specs.Check.{saidBy, Checks}
+use Rattle.promise.proofs.Demand2.{demand-2-accepts}
 use Rattle.daylist.specs.declared.JudgedList.the-variants.{Good}
 use Rattle.daylist.specs.Stages.{judgedList}
 use Rattle.daylist.proofs.Goods.{good-list}
 use Rattle.bundle.specs.Bundle.{Same, need}
 use Rattle.bundle.proofs.Batches.{batches-same, batches-number}
-use Rattle.listed.specs.Listed.{sameTerms, creditor, listed}
-use Rattle.listed.proofs.Terms.{terms-decide}
-use Rattle.listed.proofs.Goods.{good-number, good-creditor, good-collections}
+use Rattle.collections.specs.Listed.{sameTerms, creditor, listed}
+use Rattle.collections.proofs.Terms.{terms-decide}
+use Rattle.collections.proofs.Goods.{good-number, good-creditor, good-collections}
 use Rattle.written.specs.Written.{batchesFor, messageFor, written}
 use Rattle.carries.specs.Carried.{carriedBy, CarriesList}
-use Rattle.carries.specs.Contents.{cents}
+use Rattle.carries.specs.Contents.{totalCents}
 use Rattle.carries.proofs.Sums.{same-length, same-total}
 use Rattle.carries.proofs.Exact.{totalsIn, same-totals, totals-carried}
 use Rattle.carries.proofs.Demand3.{message-carried, message-carries, message-fewest, refused-exactly}
@@ -59,14 +59,14 @@ module _ (s : Bytes) (c n : ℕ) (e : judgedList s c ≡ Good n) where
 
   -- what it is worth
   abbrev pub worth : Totals
-  worth = record { batches = need (λ x. x .terms) sameTerms c (listed s); transactions = record { 0 = n }; cents = record { 0 = cents (listed s) } }
+  worth = record { batches = need (λ x. x .terms) sameTerms c (listed s); transactions = record { 0 = n }; cents = record { 0 = totalCents (listed s) } }
 
   worth-carried : need (λ x. x .terms) sameTerms c (listed s) ≤ mostBatches → totalsOf (batchesOf (saidBy (messageFor s c))) ≡ worth
   worth-carried few =
       let t : Same (concat (batchesFor s c)) (listed s) = batches-same (λ x. x .terms) sameTerms terms-decide c (listed s) ceiling in
       totals-carried (messageFor s c)
       ∙ ap totalsIn (list-carried few)
-      ∙ same-totals (length (batchesFor s c)) (need (λ x. x .terms) sameTerms c (listed s)) (length (concat (batchesFor s c))) n (cents (concat (batchesFor s c))) (cents (listed s))
+      ∙ same-totals (length (batchesFor s c)) (need (λ x. x .terms) sameTerms c (listed s)) (length (concat (batchesFor s c))) n (totalCents (concat (batchesFor s c))) (totalCents (listed s))
       (batches-number (λ x. x .terms) sameTerms terms-decide c (listed s) ceiling)
       (same-length (concat (batchesFor s c)) (listed s) t ∙ good-number s c n e)
       (same-total (λ x. x .cents) (concat (batchesFor s c)) (listed s) t)

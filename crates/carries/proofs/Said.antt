@@ -12,7 +12,7 @@ use Rattle.tree.specs.declared.Event.{Event}
 use Rattle.tree.specs.Form.{Elem, Items, Tree, Kids, Message, message, declOf, event, part, kind, opening, closing, print, printKids, says, saysKids, Tree.tree, Kids.end, Kids.skip, Kids.take as take′}
 use Rattle.tree.specs.Pain008.{Document, declaration}
 use Rattle.message.specs.Message.{told}
-use Rattle.checked.specs.Check.{saidBy}
+use Rattle.promise.specs.Check.{saidBy}
 use Rattle.carries.specs.Contents.{Content, content, contents, kidContents, contentOf}
 
 -- ─── bytes at a place ───

@@ -1,6 +1,6 @@
 -- THE WRITTEN MESSAGE IS ACCEPTED AND CARRIES ITS BATCHES.
 --   GoodBatch b            a batch of good collections of one terms, not empty
---   Ready cr bs            a good creditor, and from 1 to the profile's batches, which together hold no more collections than a list may
+--   MessageReady cr bs     a good creditor, and from 1 to the profile's batches, which together hold no more collections than a list may
 --   written-profile        what the message says is within the profile
 --   written-agrees         every count and sum that it declares is the exact one
 --   written-accepted       THE MESSAGE IS ACCEPTED
@@ -23,15 +23,15 @@ use Rattle.put.specs.Numerals.{decimal, euros, batchId}
 use Rattle.text.specs.declared.Judged.{Judged}
 use Rattle.text.specs.declared.Judged.the-variants.{Good}
 use Rattle.text.specs.declared.Rule.the-variants.{Count, Sum}
-use Rattle.text.specs.Rules.{good, told, identifier, count, sum, amount, scheme, sequence, bic, remittance}
+use Rattle.text.specs.Rules.{good, numberTold, identifier, count, sum, amount, scheme, sequence, bic, remittance}
 use Rattle.tree.specs.Form.{message}
 use Rattle.tree.specs.Pain008.{declaration}
 use Rattle.tree.specs.Parts as part
-use Rattle.checked.specs.Check.{saidBy}
-use Rattle.checked.specs.Demand2.{AllAgree, InProfile}
+use Rattle.promise.specs.Check.{saidBy}
+use Rattle.promise.specs.Demand2.{AllAgree, InProfile}
 use Rattle.bundle.specs.Bundle.{number}
-use Rattle.listed.specs.Listed.{Collection, Creditor}
-use Rattle.listed.specs.Good.{emptyOr, GoodTerms, GoodCollection, GoodCreditor}
+use Rattle.collections.specs.Listed.{Collection, Creditor}
+use Rattle.collections.specs.Good.{emptyOr, GoodTerms, GoodCollection, GoodCreditor}
 use Rattle.written.specs.Written.{schemeWord, sequenceWord, termsOf, messageOf}
 use Rattle.written.proofs.Clean.{Clean}
 use Rattle.written.proofs.Texts.{good-clean, good-creditor-clean}
@@ -39,8 +39,8 @@ use Rattle.written.proofs.Numerals.{count-good, sum-good, amount-good, batch-id
 use Rattle.written.proofs.Printed.{pieces-written}
 use Rattle.written.proofs.Lengths.{all-concat, cents-most, message-length}
 use Rattle.carries.specs.Carried.{carriedBy, Accepted}
-use Rattle.carries.specs.Contents.{Content, contents, all, the, collectionsIn, carriedOf, ProfileIn, Agreed, cents, BatchAgreed, AgreedIn}
-use Rattle.carries.specs.Held.{txt, bankHeld, remittanceHeld, debtor, transactionHeld, scheme as schemeHeld, batchHeld, messageHeld}
+use Rattle.carries.specs.Contents.{Content, contents, allOf, the, collectionsIn, carriedOf, ProfileIn, Agreed, totalCents, BatchAgreed, AgreedIn}
+use Rattle.carries.specs.Held.{txt, bankHeld, remittanceHeld, debtor, transactionHeld, schemeHeld, batchHeld, messageHeld}
 use Rattle.carries.proofs.Finds.{carried-contents}
 use Rattle.carries.proofs.Exact.{profile-contents, agree-contents}
 use Rattle.carries.proofs.Held.{length-number, message-held}
@@ -52,7 +52,7 @@ pub record GoodBatch (b : List Collection) : Type 0 where
   pub alike : All (λ x. x .terms ≡ termsOf b) b
   pub good : All GoodCollection b
 
-pub record Ready (cr : Creditor) (bs : List (List Collection)) : Type 0 where
+pub record MessageReady (cr : Creditor) (bs : List (List Collection)) : Type 0 where
   pub creditor : GoodCreditor cr
   pub some : 1 ≤ length bs
   pub few : length bs ≤ mostBatches
@@ -82,15 +82,15 @@ module _ (cr : Creditor) where
 
   -- ─── what it declares ───
 
-  agreed : (o : Option Content) (c : Content) (a b : ℕ) → o ≡ some c → b ≡ a → told (c .judged) ≡ a → Agreed o b
+  agreed : (o : Option Content) (c : Content) (a b : ℕ) → o ≡ some c → b ≡ a → numberTold (c .judged) ≡ a → Agreed o b
   agreed o c a b e f h = rw (e, f) h
 
   batch-agreed : (n : ℕ) (b : List Collection) → GoodBatch b → length b ≤ mostCollections → BatchAgreed (batchHeld cr (n, b))
   batch-agreed n b g l = record {
     count = agreed (the part.batchCount (batchHeld cr (n, b))) (txt part.batchCount Count (decimal (length b))) (length b) (length (collectionsIn (batchHeld cr (n, b))))
-        (count-found cr n b) (ap length (collections-of n b g)) (ap told (count-good (length b) (omega arith)));
-    sum = agreed (the part.batchSum (batchHeld cr (n, b))) (txt part.batchSum Sum (euros (cents b))) (cents b) (cents (collectionsIn (batchHeld cr (n, b))))
-        (sum-found cr n b) (ap cents (collections-of n b g)) (ap told (sum-good (cents b) (omega (arith, cents-most b (g .good)))));
+        (count-found cr n b) (ap length (collections-of n b g)) (ap numberTold (count-good (length b) (omega arith)));
+    sum = agreed (the part.batchSum (batchHeld cr (n, b))) (txt part.batchSum Sum (euros (totalCents b))) (totalCents b) (totalCents (collectionsIn (batchHeld cr (n, b))))
+        (sum-found cr n b) (ap totalCents (collections-of n b g)) (ap numberTold (sum-good (totalCents b) (omega (arith, cents-most b (g .good)))));
   }
 
   batches-agreed : (n : ℕ) (bs : List (List Collection)) → All GoodBatch bs → length (concat bs) ≤ mostCollections → All BatchAgreed (map (batchHeld cr) (number n bs))
@@ -100,23 +100,23 @@ module _ (cr : Creditor) where
 
   -- where no batch has an element of a part, the header's is the one of the message
   header-found : (p : ℕ) → ((q : ℕ × List Collection) → T (each (without p) (batchHeld cr q))) → (bs : List (List Collection)) (c : Content)
-      → lastOr none (c ∷ all p (gather (batchHeld cr) (number 1 bs))) ≡ some c
+      → lastOr none (c ∷ allOf p (gather (batchHeld cr) (number 1 bs))) ≡ some c
   header-found p w bs c =
       ap (λ (cs : List Content). lastOr none (c ∷ cs)) (all-without p (gather (batchHeld cr) (number 1 bs)) (each-gather (without p) (batchHeld cr) (number 1 bs) w))
 
-  held-agreed : (bs : List (List Collection)) → Ready cr bs → AgreedIn (messageHeld cr bs)
+  held-agreed : (bs : List (List Collection)) → MessageReady cr bs → AgreedIn (messageHeld cr bs)
   held-agreed bs r =
       let e : carriedOf (messageHeld cr bs) ≡ bs = held-carries bs (r .batches) in record {
         batches = rw (message-batches cr bs) (batches-agreed 1 bs (r .batches) (r .collections));
         messageCount =
             agreed (the part.messageCount (messageHeld cr bs)) (txt part.messageCount Count (decimal (length (concat bs)))) (length (concat bs)) (length (concat (carriedOf (messageHeld cr bs))))
             (header-found 1 (λ q. behind-without cr (q .0) (q .1) 1 (omega arith) (omega arith)) bs (txt part.messageCount Count (decimal (length (concat bs)))))
-            (ap (λ (l : List (List Collection)). length (concat l)) e) (ap told (count-good (length (concat bs)) (omega (arith, r .collections))));
+            (ap (λ (l : List (List Collection)). length (concat l)) e) (ap numberTold (count-good (length (concat bs)) (omega (arith, r .collections))));
         messageSum =
-            agreed (the part.messageSum (messageHeld cr bs)) (txt part.messageSum Sum (euros (cents (concat bs)))) (cents (concat bs)) (cents (concat (carriedOf (messageHeld cr bs))))
-            (header-found 2 (λ q. behind-without cr (q .0) (q .1) 2 (omega arith) (omega arith)) bs (txt part.messageSum Sum (euros (cents (concat bs)))))
-            (ap (λ (l : List (List Collection)). cents (concat l)) e)
-            (ap told (sum-good (cents (concat bs)) (omega (arith, r .collections, cents-most (concat bs) (all-concat bs (goods bs (r .batches)))))));
+            agreed (the part.messageSum (messageHeld cr bs)) (txt part.messageSum Sum (euros (totalCents (concat bs)))) (totalCents (concat bs)) (totalCents (concat (carriedOf (messageHeld cr bs))))
+            (header-found 2 (λ q. behind-without cr (q .0) (q .1) 2 (omega arith) (omega arith)) bs (txt part.messageSum Sum (euros (totalCents (concat bs)))))
+            (ap (λ (l : List (List Collection)). totalCents (concat l)) e)
+            (ap numberTold (sum-good (totalCents (concat bs)) (omega (arith, r .collections, cents-most (concat bs) (all-concat bs (goods bs (r .batches)))))));
       }
 
 -- ─── its texts ───
@@ -169,7 +169,7 @@ module _ (cr : Creditor) (k : GoodCreditor cr) where
       and tt
       and tt
       and told-good (count (decimal (length b))) (length b) (count-good (length b) (omega arith))
-      and told-good (sum (euros (cents b))) (cents b) (sum-good (cents b) (omega (arith, cents-most b (g .good))))
+      and told-good (sum (euros (totalCents b))) (totalCents b) (sum-good (totalCents b) (omega (arith, cents-most b (g .good))))
       and tt
       and tt
       and tt
@@ -193,7 +193,7 @@ module _ (cr : Creditor) (k : GoodCreditor cr) where
       let e : length (b ++ concat bs) ≡ length b + length (concat bs) = length-append b (concat bs) in
       fine-append (batchHeld cr (n, b)) (gather (batchHeld cr) (number (suc n) bs)) (batch-fine n b (g .0) (omega arith)) (batches-fine (suc n) bs (g .1) (omega arith))
 
-  held-fine : (bs : List (List Collection)) → Ready cr bs → Fine (messageHeld cr bs)
+  held-fine : (bs : List (List Collection)) → MessageReady cr bs → Fine (messageHeld cr bs)
   held-fine bs r =
       let xs : List Collection = concat bs in
       tt
@@ -202,7 +202,7 @@ module _ (cr : Creditor) (k : GoodCreditor cr) where
       and k .messageId
       and k .creationTime
       and told-good (count (decimal (length xs))) (length xs) (count-good (length xs) (omega (arith, r .collections)))
-      and told-good (sum (euros (cents xs))) (cents xs) (sum-good (cents xs) (omega (arith, r .collections, cents-most xs (all-concat bs (goods bs (r .batches))))))
+      and told-good (sum (euros (totalCents xs))) (totalCents xs) (sum-good (totalCents xs) (omega (arith, r .collections, cents-most xs (all-concat bs (goods bs (r .batches))))))
       and tt
       and k .initiatingName
       and batches-fine 1 bs (r .batches) (r .collections)
@@ -210,22 +210,22 @@ module _ (cr : Creditor) (k : GoodCreditor cr) where
 -- ─── its batches and transactions ───
 
 module _ (cr : Creditor) where
-  batches-count : (bs : List (List Collection)) → length (all part.batch (messageHeld cr bs)) ≡ length bs
+  batches-count : (bs : List (List Collection)) → length (allOf part.batch (messageHeld cr bs)) ≡ length bs
   batches-count bs =
       length-all (λ c. c .part) part.batch (messageHeld cr bs) ∙ ap length (message-batches cr bs) ∙ length-map (number 1 bs) (batchHeld cr) ∙ length-number 1 bs
 
-  transactions-in : (n : ℕ) (b : List Collection) → length (all part.transaction (batchHeld cr (n, b))) ≡ length b
+  transactions-in : (n : ℕ) (b : List Collection) → length (allOf part.transaction (batchHeld cr (n, b))) ≡ length b
   transactions-in n b = length-all (λ c. c .part) part.transaction (batchHeld cr (n, b)) ∙ ap length (transactions-held cr n b) ∙ length-map b transactionHeld
 
-  transactions-count : (n : ℕ) (bs : List (List Collection)) → length (all part.transaction (gather (batchHeld cr) (number n bs))) ≡ length (concat bs)
+  transactions-count : (n : ℕ) (bs : List (List Collection)) → length (allOf part.transaction (gather (batchHeld cr) (number n bs))) ≡ length (concat bs)
   transactions-count n [] = refl
   transactions-count n (b ∷ bs) =
       ap length (all-append part.transaction (batchHeld cr (n, b)) (gather (batchHeld cr) (number (suc n) bs)))
-      ∙ length-append (all part.transaction (batchHeld cr (n, b))) (all part.transaction (gather (batchHeld cr) (number (suc n) bs)))
+      ∙ length-append (allOf part.transaction (batchHeld cr (n, b))) (allOf part.transaction (gather (batchHeld cr) (number (suc n) bs)))
       ∙ ap₂ (λ (x y : ℕ). x + y) (transactions-in n b) (transactions-count (suc n) bs)
       ∙ sym (length-append b (concat bs))
 
-  held-profile : (bs : List (List Collection)) → Ready cr bs → ProfileIn (messageHeld cr bs)
+  held-profile : (bs : List (List Collection)) → MessageReady cr bs → ProfileIn (messageHeld cr bs)
   held-profile bs r = record {
     batches = rw (batches-count bs) (r .few);
     transactions = omega (arith, transactions-count 1 bs, r .collections);
@@ -234,7 +234,7 @@ module _ (cr : Creditor) where
 
   -- ─── the theorems ───
 
-  module _ (bs : List (List Collection)) (r : Ready cr bs) where
+  module _ (bs : List (List Collection)) (r : MessageReady cr bs) where
     cleans : All (λ b. (1 ≤ length b) × All Clean b) bs
     cleans = All-map GoodBatch (λ b. (1 ≤ length b) × All Clean b) bs (λ b g. (g .some, All-map GoodCollection Clean b good-clean (g .good))) (r .batches)
 

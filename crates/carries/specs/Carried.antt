@@ -19,10 +19,10 @@ use Rattle.tree.specs.Pain008.{Document, declaration}
 use Rattle.tree.specs.Parts as part
 use Rattle.message.specs.declared.Told.{Told}
 use Rattle.message.specs.Message.{parts, the, worthOf}
-use Rattle.checked.specs.Check.{saidBy}
-use Rattle.checked.specs.Demand2.{Belongs, AllAgree}
+use Rattle.promise.specs.Check.{saidBy}
+use Rattle.promise.specs.Demand2.{Belongs, AllAgree}
 use Rattle.bundle.specs.Bundle.{Same}
-use Rattle.listed.specs.Listed.{Terms, Collection}
+use Rattle.collections.specs.Listed.{Terms, Collection}
 
 -- ─── the collections of a message ───
 

@@ -2,7 +2,7 @@
 --   Content                the part of an element, what its text is judged, and the text
 --   contents t r           the contents of the tree t in the order of the opening tags, before r
 --   contentOf s t          what the element t holds, of the message s
---   is, before, parts, all, the     the elements of a part, as Sections says
+--   is, before, parts, allOf, the   the elements of a part, as Sections says
 --   worth o, textOf o      what a text tells, and the text; 0 and empty where there is none
 --   termsIn p, collectionIn k p, collectionsIn p, carriedOf cs   the collections
 --   ProfileIn cs           as InProfile: the limits of batches and transactions, and the texts
@@ -19,13 +19,13 @@ use Rattle.laws.specs.Lists.{total, All, concat}
 use Rattle.laws.specs.Sections as sections
 use Rattle.profile.specs.Limits.{mostBatches, mostTransactions}
 use Rattle.text.specs.declared.Judged.{Judged}
-use Rattle.text.specs.Rules.{told, good}
+use Rattle.text.specs.Rules.{numberTold, good}
 use Rattle.tree.specs.declared.Kind.{Kind}
 use Rattle.tree.specs.Form.{Elem, Items, Tree, Kids, part, kind, Tree.tree, Kids.end, Kids.skip, Kids.take as take′}
 use Rattle.tree.specs.Parts as part
 use Rattle.message.specs.declared.Told.{Told}
 use Rattle.message.specs.Message.{judgedAs}
-use Rattle.listed.specs.Listed.{Terms, Collection}
+use Rattle.collections.specs.Listed.{Terms, Collection}
 use Rattle.carries.specs.Carried.{termsBy, collectionBy}
 
 -- ─── the contents of a tree ───
@@ -61,8 +61,8 @@ before = sections.before (λ c. c .part)
 abbrev pub parts : ℕ → List Content → List (List Content)
 parts = sections.parts (λ c. c .part)
 
-abbrev pub all : ℕ → List Content → List Content
-all = sections.all (λ c. c .part)
+abbrev pub allOf : ℕ → List Content → List Content
+allOf = sections.allOf (λ c. c .part)
 
 abbrev pub the : ℕ → List Content → Option Content
 the = sections.the (λ c. c .part)
@@ -71,7 +71,7 @@ the = sections.the (λ c. c .part)
 
 abbrev pub worth : Option Content → ℕ
 worth none = 0
-worth (some t) = told (t .judged)
+worth (some t) = numberTold (t .judged)
 
 abbrev pub textOf : Option Content → Bytes
 textOf none = []
@@ -93,24 +93,24 @@ carriedOf cs = map collectionsIn (parts part.batch cs)
 -- ─── acceptance ───
 
 pub record ProfileIn (cs : List Content) : Type 0 where
-  pub batches : length (all part.batch cs) ≤ mostBatches
-  pub transactions : length (all part.transaction cs) ≤ mostTransactions
+  pub batches : length (allOf part.batch cs) ≤ mostBatches
+  pub transactions : length (allOf part.transaction cs) ≤ mostTransactions
   pub texts : All (λ t. T (good (t .judged))) cs
 
 -- a declaration is absent, or tells the number n
 abbrev pub Agreed : Option Content → ℕ → Type 0
 Agreed none n = Unit {0}
-Agreed (some t) n = told (t .judged) ≡ n
+Agreed (some t) n = numberTold (t .judged) ≡ n
 
-abbrev pub cents : List Collection → ℕ
-cents xs = total (λ x. x .cents) xs
+abbrev pub totalCents : List Collection → ℕ
+totalCents xs = total (λ x. x .cents) xs
 
 -- of a batch
 pub record BatchAgreed (p : List Content) : Type 0 where
   pub count : Agreed (the part.batchCount p) (length (collectionsIn p))
-  pub sum : Agreed (the part.batchSum p) (cents (collectionsIn p))
+  pub sum : Agreed (the part.batchSum p) (totalCents (collectionsIn p))
 
 pub record AgreedIn (cs : List Content) : Type 0 where
   pub batches : All BatchAgreed (parts part.batch cs)
   pub messageCount : Agreed (the part.messageCount cs) (length (concat (carriedOf cs)))
-  pub messageSum : Agreed (the part.messageSum cs) (cents (concat (carriedOf cs)))
+  pub messageSum : Agreed (the part.messageSum cs) (totalCents (concat (carriedOf cs)))

@@ -15,9 +15,9 @@ use Rattle.text.specs.declared.Rule.the-variants.{Identifier, Name, Remittance,
 use Rattle.tree.specs.declared.Kind.the-variants.{Holds, Text}
 use Rattle.tree.specs.Parts as part
 use Rattle.bundle.specs.Bundle.{number}
-use Rattle.listed.specs.Listed.{Collection, Creditor}
+use Rattle.collections.specs.Listed.{Collection, Creditor}
 use Rattle.written.specs.Written.{schemeWord, sequenceWord, termsOf}
-use Rattle.carries.specs.Contents.{Content, content, cents}
+use Rattle.carries.specs.Contents.{Content, content, totalCents}
 
 abbrev pub box : ℕ → Content
 box p = content p Holds []
@@ -61,8 +61,8 @@ transactionHeld x =
 -- ─── a batch ───
 
 -- up to the creditor's bank: id, count, sum, scheme, sequence, date; the creditor's name and account
-abbrev pub totals : Bytes → Bytes → Bytes → Bytes → Bytes → Bytes → Bytes → Bytes → List Content
-totals i n s k q d nm a =
+abbrev pub totalsHeld : Bytes → Bytes → Bytes → Bytes → Bytes → Bytes → Bytes → Bytes → List Content
+totalsHeld i n s k q d nm a =
     box part.batch
     ∷ txt 0 Identifier i
     ∷ txt 0 Method (ascii "DD")
@@ -85,8 +85,8 @@ totals i n s k q d nm a =
     ∷ []
 
 -- behind it: the creditor identifier
-abbrev pub scheme : Bytes → List Content
-scheme i =
+abbrev pub schemeHeld : Bytes → List Content
+schemeHeld i =
     txt 0 Charges (ascii "SLEV")
     ∷ box 0
     ∷ box 0
@@ -99,8 +99,8 @@ scheme i =
 
 abbrev pub headHeld : Creditor → ℕ → List Collection → List Content
 headHeld cr n xs =
-    totals (batchId n) (decimal (length xs)) (euros (cents xs)) (schemeWord (termsOf xs .scheme)) (sequenceWord (termsOf xs .sequence)) (termsOf xs .date) (cr .name) (cr .account)
-    ++ (bankHeld 0 (cr .bank) ++ scheme (cr .identifier))
+    totalsHeld (batchId n) (decimal (length xs)) (euros (totalCents xs)) (schemeWord (termsOf xs .scheme)) (sequenceWord (termsOf xs .sequence)) (termsOf xs .date) (cr .name) (cr .account)
+    ++ (bankHeld 0 (cr .bank) ++ schemeHeld (cr .identifier))
 
 abbrev pub batchHeld : Creditor → ℕ × List Collection → List Content
 batchHeld cr q = headHeld cr (q .0) (q .1) ++ gather transactionHeld (q .1)
@@ -108,8 +108,8 @@ batchHeld cr q = headHeld cr (q .0) (q .1) ++ gather transactionHeld (q .1)
 -- ─── the message ───
 
 -- message id, creation time, count, sum, initiating name
-abbrev pub opening : Bytes → Bytes → Bytes → Bytes → Bytes → List Content
-opening i t n s nm =
+abbrev pub groupHeaderHeld : Bytes → Bytes → Bytes → Bytes → Bytes → List Content
+groupHeaderHeld i t n s nm =
     box 0
     ∷ box 0
     ∷ box 0
@@ -122,7 +122,7 @@ opening i t n s nm =
     ∷ []
 
 abbrev pub openingHeld : Creditor → List Collection → List Content
-openingHeld cr xs = opening (cr .messageId) (cr .creationTime) (decimal (length xs)) (euros (cents xs)) (cr .initiatingName)
+openingHeld cr xs = groupHeaderHeld (cr .messageId) (cr .creationTime) (decimal (length xs)) (euros (totalCents xs)) (cr .initiatingName)
 
 abbrev pub messageHeld : Creditor → List (List Collection) → List Content
 messageHeld cr bs = openingHeld cr (concat bs) ++ gather (batchHeld cr) (number 1 bs)

@@ -45,11 +45,11 @@ use Rattle.reader.specs.declared.Outcome.the-variants.{TooLong as LongOne, Stuc
 use Rattle.reader.specs.Told.{stepOf}
 use Rattle.reader.specs.Walk as walk
 use Rattle.reader.specs.Read.{ReadRight, Bounded}
-use Rattle.checked.specs.Check.{saidBy, roomOf, Checks}
-use Rattle.checked.specs.Demand2.{Enough}
+use Rattle.promise.specs.Check.{saidBy, roomOf, Checks}
+use Rattle.promise.specs.Demand2.{Enough}
 use Rattle.checking.specs.Inner.{Verdicts, Fills}
-use Rattle.checked.proofs.Accepts.{accepted-only}
-use Rattle.checked.proofs.Outcome.{same-said}
+use Rattle.promise.proofs.Accepts.{accepted-only}
+use Rattle.promise.proofs.Outcome.{same-said}
 
 events-said : (s : Bytes) (st : State) (es : List Event) → walk.fold State (stepOf s) s st es ≡ fold step st (tell s es)
 unfolding stepOf

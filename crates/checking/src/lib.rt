@@ -4,7 +4,7 @@ ghost use Rattle.marks.specs.Ranks.{ranked};
 ghost use Rattle.tree.specs.Pain008.{Document};
 ghost use Rattle.plan.specs.Held.{holdsElem};
 ghost use Rattle.answer.specs.Said.{said};
-ghost use Rattle.checked.specs.Check.{Checks};
+ghost use Rattle.promise.specs.Check.{Checks};
 ghost use Rattle.checking.specs.Inner.{Verdicts, Fills};
 use answer::Checked;
 use heard::row;

@@ -28,9 +28,9 @@ use Rattle.text.specs.declared.Judged.{Judged}
 use Rattle.text.specs.declared.Judged.the-variants.{Good, Bad}
 use Rattle.frames.specs.declared.Field.{Field}
 use Rattle.frames.specs.declared.Frame.{Frame}
-use Rattle.daylist.specs.Lead.{scheme, sequence, cents}
+use Rattle.daylist.specs.Lead.{leadScheme, leadSequence, leadCents}
 use Rattle.frames.specs.Fields.{creditorFields, collectionFields, fieldsOf, judgedField}
-use Rattle.frames.specs.Frames.{creditor, collection, frameOf, leadOf, textsOf, texts}
+use Rattle.frames.specs.Frames.{creditorFrame, collectionFrame, frameOf, leadOf, textsOf, texts}
 use Rattle.daylist.specs.Values.{judgedLead, judgedTexts, else, firstBad}
 use Rattle.frames.proofs.Cuts.{by-first, by-further, by-ap}
 use Rattle.daylist.proofs.Leads.{take-there, drop-there}
@@ -56,10 +56,10 @@ first-bad-append (Good n ∷ js) ks = first-bad-append js ks
 first-bad-append (Bad f ∷ js) ks = refl
 
 pub texts-number : (n : ℕ) → (frameOf n) .texts ≡ length (fieldsOf n)
-texts-number n = by-ap (λ (f : Frame). f .texts) n creditor collection ∙ sym (by-ap length n creditorFields collectionFields)
+texts-number n = by-ap (λ (f : Frame). f .texts) n creditorFrame collectionFrame ∙ sym (by-ap length n creditorFields collectionFields)
 
 pub lead-small : (n : ℕ) → (frameOf n) .lead ≤ 7
-lead-small n = rw (by-ap (λ (f : Frame). f .lead) n creditor collection) (bool-cases (λ z. elim z as (λ (_ : Bool). ℕ) [ true ↦ 0 | false ↦ 7 ] ≤ 7) (eqb n 1) (λ t. omega arith) (λ t. omega arith))
+lead-small n = rw (by-ap (λ (f : Frame). f .lead) n creditorFrame collectionFrame) (bool-cases (λ z. elim z as (λ (_ : Bool). ℕ) [ true ↦ 0 | false ↦ 7 ] ≤ 7) (eqb n 1) (λ t. omega arith) (λ t. omega arith))
 
 -- the texts of a line, where f is its frame
 pub texts-of : (n : ℕ) (f : Frame) (s : Bytes) → f ≡ frameOf n → textsOf (frameOf n) s ≡ texts (length (fieldsOf n)) (drop (1 + f .lead) s)
@@ -71,12 +71,12 @@ module _ (n : ℕ) (s : Bytes) where
   pub lead-none : n ≡ 1 → firstBad (judgedLead n (leadOf (frameOf n) s)) ≡ Good 0
   lead-none e = ap firstBad (by-first n _ _ e)
 
-  pub lead-is : (n ≡ 1 → ⊥) → firstBad (judgedLead n (leadOf (frameOf n) s)) ≡ else (scheme (getD s 1 0)) (else (sequence (getD s 2 0)) (else (cents (take 5 (drop 3 s))) (Good 0)))
-  lead-is d = ap (λ (f : Frame). firstBad (judgedLead n (leadOf f s))) (by-further n creditor collection d) ∙ ap firstBad (by-further n [] _ d) ∙ go s
+  pub lead-is : (n ≡ 1 → ⊥) → firstBad (judgedLead n (leadOf (frameOf n) s)) ≡ else (leadScheme (getD s 1 0)) (else (leadSequence (getD s 2 0)) (else (leadCents (take 5 (drop 3 s))) (Good 0)))
+  lead-is d = ap (λ (f : Frame). firstBad (judgedLead n (leadOf f s))) (by-further n creditorFrame collectionFrame d) ∙ ap firstBad (by-further n [] _ d) ∙ go s
     where
       go : (s : Bytes) →
-          else (scheme (getD (take 7 (drop 1 s)) 0 0)) (else (sequence (getD (take 7 (drop 1 s)) 1 0)) (else (cents (drop 2 (take 7 (drop 1 s)))) (Good 0)))
-          ≡ else (scheme (getD s 1 0)) (else (sequence (getD s 2 0)) (else (cents (take 5 (drop 3 s))) (Good 0)))
+          else (leadScheme (getD (take 7 (drop 1 s)) 0 0)) (else (leadSequence (getD (take 7 (drop 1 s)) 1 0)) (else (leadCents (drop 2 (take 7 (drop 1 s)))) (Good 0)))
+          ≡ else (leadScheme (getD s 1 0)) (else (leadSequence (getD s 2 0)) (else (leadCents (take 5 (drop 3 s))) (Good 0)))
       go [] = refl
       go (a ∷ []) = refl
       go (a ∷ b ∷ []) = refl

@@ -1,7 +1,7 @@
 -- THE FIELDS OF A COLLECTION BEFORE ITS TEXTS: scheme, sequence, and cents in five bytes, high first. To be believed; definitions only.
---   highFirst s         the number that the bytes are, high first
---   scheme, sequence    a byte judged as a scheme (0, 1) and as a sequence (0 to 3)
---   cents               five bytes judged as cents
+--   highFirst s                the number that the bytes are, high first
+--   leadScheme, leadSequence   a byte judged as a scheme (0, 1) and as a sequence (0 to 3)
+--   leadCents                  five bytes judged as cents
 use Prim.Native.Nat.{ℕ, _+_, _*_}
 use mathlib.Core.List.{[], _∷_}
 use lib.Dec.{leb}
@@ -20,11 +20,11 @@ highFirstFrom v (b ∷ s) = highFirstFrom (v * 256 + b) s
 abbrev pub highFirst : Bytes → ℕ
 highFirst s = highFirstFrom 0 s
 
-abbrev pub scheme : ℕ → Judged
-scheme b = must (leb b 1) Code (Good b)
+abbrev pub leadScheme : ℕ → Judged
+leadScheme b = must (leb b 1) Code (Good b)
 
-abbrev pub sequence : ℕ → Judged
-sequence b = must (leb b 3) Code (Good b)
+abbrev pub leadSequence : ℕ → Judged
+leadSequence b = must (leb b 3) Code (Good b)
 
-abbrev pub cents : Bytes → Judged
-cents s = must (between 1 mostCents (highFirst s)) Number (Good (highFirst s))
+abbrev pub leadCents : Bytes → Judged
+leadCents s = must (between 1 mostCents (highFirst s)) Number (Good (highFirst s))

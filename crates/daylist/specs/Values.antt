@@ -11,12 +11,12 @@ use Rattle.laws.specs.Bytes.{Bytes}
 use Rattle.text.specs.declared.Judged.{Judged}
 use Rattle.text.specs.declared.Judged.the-variants.{Good, Bad}
 use Rattle.frames.specs.declared.Field.{Field}
-use Rattle.daylist.specs.Lead.{scheme, sequence, cents}
+use Rattle.daylist.specs.Lead.{leadScheme, leadSequence, leadCents}
 use Rattle.frames.specs.Fields.{byLine, fieldsOf, judgedField}
 use Rattle.frames.specs.Frames.{frameOf, leadOf, textsOf}
 
 abbrev pub judgedLead : ℕ → Bytes → List Judged
-judgedLead n s = byLine n [] (scheme (getD s 0 0) ∷ sequence (getD s 1 0) ∷ cents (drop 2 s) ∷ [])
+judgedLead n s = byLine n [] (leadScheme (getD s 0 0) ∷ leadSequence (getD s 1 0) ∷ leadCents (drop 2 s) ∷ [])
 
 abbrev pub judgedTexts : List Field → List Bytes → List Judged
 judgedTexts [] ts = []

@@ -23,17 +23,17 @@ use Rattle.tree.proofs.Whole.{Promise}
 use Rattle.tree.proofs.Pain008.{read-right, read-all, place-one}
 use Rattle.message.specs.Verdict.{Verdict, Verdict.refused}
 use Rattle.message.proofs.Cases.{verdictRead, toldAs, Case, computed, right, cases}
-use Rattle.checked.specs.Check.{roomOf, Long, Stuck, Judged, Checks}
+use Rattle.promise.specs.Check.{roomOf, Long, OutOfForm, ByStages, Checks}
 
 module _ (s : Bytes) (slips rows : List ℕ) (v : Verdict) (a b : List ℕ) where
   pub answer-read : Checks s slips rows v a b → length s ≤ mostBytes → v ≡ verdictRead s (roomOf slips rows) (read declaration Document s)
   answer-read h l = go (h .case)
     where
-      at-place : (q : Stuck s slips rows v a b) (o : Res) → Promise declaration Document s o → refused (fault 2 (q .place)) ≡ verdictRead s (roomOf slips rows) o
+      at-place : (q : OutOfForm s slips rows v a b) (o : Res) → Promise declaration Document s o → refused (fault 2 (q .place)) ≡ verdictRead s (roomOf slips rows) o
       at-place q (done es) p = absurd (q .not-of-form .0 (p .0, p .1))
       at-place q (stuck m) p = ap (λ (k : ℕ). refused (fault 2 k)) (place-one s (q .place) m (q .not-of-form .1) (p .1))
 
-      go : Long s slips rows v a b ⊎ (Stuck s slips rows v a b ⊎ Judged s slips rows v a b) → v ≡ verdictRead s (roomOf slips rows) (read declaration Document s)
+      go : Long s slips rows v a b ⊎ (OutOfForm s slips rows v a b ⊎ ByStages s slips rows v a b) → v ≡ verdictRead s (roomOf slips rows) (read declaration Document s)
       go (inl q) = absurd (omega (arith, q .long))
       go (inr (inl q)) = q .answer ∙ at-place q (read declaration Document s) (read-right s)
       go (inr (inr q)) =

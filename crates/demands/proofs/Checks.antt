@@ -17,13 +17,13 @@ use Rattle.profile.specs.declared.Totals.{Totals}
 use Rattle.tree.specs.Form.{Message, message}
 use Rattle.tree.specs.Pain008.{Document, declaration}
 use Rattle.message.specs.declared.Told.{Told}
-use Rattle.message.specs.Message.{Batch, batchesOf, count, sum, worthOf}
+use Rattle.message.specs.Message.{Batch, batchesOf, exactCount, exactSum, worthOf}
 use Rattle.message.specs.Verdict.{Verdict, Verdict.accepted, Verdict.refused, declared, row, rowsFrom, rowsOf, totalsOf}
-use Rattle.checked.specs.Check.{saidBy, roomOf, after, Long, Stuck, Judged, Checks}
-use Rattle.checked.specs.Demand2.{InProfile, AllAgree, Belongs, Enough}
-use Rattle.checked.proofs.Outcome.{same-said, refusal-keeps}
-use Rattle.checked.proofs.Numbers.{refusal-number, belongs-exactly}
-use Rattle.checked.proofs.Demand2.{demand-2-accepts, demand-2-only}
+use Rattle.promise.specs.Check.{saidBy, roomOf, tableAfter, Long, OutOfForm, ByStages, Checks}
+use Rattle.promise.specs.Demand2.{InProfile, AllAgree, Belongs, Enough}
+use Rattle.promise.proofs.Outcome.{same-said, refusal-keeps}
+use Rattle.promise.proofs.Numbers.{refusal-number, belongs-exactly}
+use Rattle.promise.proofs.Demand2.{demand-2-accepts, demand-2-only}
 use Rattle.carries.specs.Carried.{Accepted}
 use Rattle.desk.specs.Answers.{checkedNumbers}
 use Rattle.demands.specs.Demands.{Tells, RowsTell}
@@ -42,10 +42,10 @@ tells (some t) (some u) m n c e l = (((refl, refl), (refl, refl)), refl)
 pub rows-tell : (m : ℕ) (bs : List Batch) (l : List ℕ) → RowsTell bs (rowsFrom m bs ++ l)
 rows-tell m [] l = tt
 rows-tell m (b ∷ bs) l =
-    let r : List ℕ = rowsFrom (m + count b) bs ++ l in
-    let h = tells (b .declaredCount) (b .declaredSum) m (count b) (sum b) (4 * worthOf (b .scheme) + worthOf (b .sequence)) r in
-    subst (λ (x : List ℕ). RowsTell (b ∷ bs) x) (sym (append-assoc (row m b) (rowsFrom (m + count b) bs) l))
-    (h .0, subst (λ (x : List ℕ). RowsTell bs x) (sym (h .1)) (rows-tell (m + count b) bs l))
+    let r : List ℕ = rowsFrom (m + exactCount b) bs ++ l in
+    let h = tells (b .declaredCount) (b .declaredSum) m (exactCount b) (exactSum b) (4 * worthOf (b .scheme) + worthOf (b .sequence)) r in
+    subst (λ (x : List ℕ). RowsTell (b ∷ bs) x) (sym (append-assoc (row m b) (rowsFrom (m + exactCount b) bs) l))
+    (h .0, subst (λ (x : List ℕ). RowsTell bs x) (sym (h .1)) (rows-tell (m + exactCount b) bs l))
 
 -- ─── an outcome of the check ───
 
@@ -62,10 +62,10 @@ module _ (s : Bytes) (slips rows : List ℕ) (v : Verdict) (a b : List ℕ) (h :
   accepts e = zero-accepts v (λ f g. refusal-number s slips rows v a b h f g .0) e
 
   -- an accepted message is read, and its rows are put
-  read : (t : Totals) → v ≡ accepted t → Judged s slips rows v a b
+  read : (t : Totals) → v ≡ accepted t → ByStages s slips rows v a b
   read t e = go (h .case)
     where
-      go : Long s slips rows v a b ⊎ (Stuck s slips rows v a b ⊎ Judged s slips rows v a b) → Judged s slips rows v a b
+      go : Long s slips rows v a b ⊎ (OutOfForm s slips rows v a b ⊎ ByStages s slips rows v a b) → ByStages s slips rows v a b
       go (inl q) = absurd (let z : _≡_ {A = ℕ} 0 1 = cc in omega arith)
       go (inr (inl q)) = absurd (let z : _≡_ {A = ℕ} 0 1 = cc in omega arith)
       go (inr (inr q)) = q
@@ -150,6 +150,6 @@ module _ (s : Bytes) (slips rows : List ℕ) (v : Verdict) (a b : List ℕ) (h :
       let q = read (t .0) (t .1) in
       let same : saidBy (q .read) ≡ saidBy m = same-said (q .read) m s (q .bytes) e in
       let put : b ≡ putAt rows 0 (rowsOf (saidBy m)) =
-      q .rows-are ∙ ap (λ (w : Verdict). after w rows (rowsOf (saidBy (q .read)))) (t .1) ∙ ap (λ (ts : List Told). putAt rows 0 (rowsOf ts)) same
+      q .rows-are ∙ ap (λ (w : Verdict). tableAfter w rows (rowsOf (saidBy (q .read)))) (t .1) ∙ ap (λ (ts : List Told). putAt rows 0 (rowsOf ts)) same
       in
       subst (λ (l : List ℕ). RowsTell (batchesOf (saidBy m)) l) (sym put) (rows-tell 0 (batchesOf (saidBy m)) (drop (0 + length (rowsOf (saidBy m))) rows))

@@ -8,8 +8,8 @@ use Rattle.tree.specs.Pain008.{declaration}
 use Rattle.message.specs.Verdict.{Verdict}
 use Rattle.answer.specs.declared.Checked.{Checked}
 use Rattle.answer.specs.Said.{said}
-use Rattle.checked.specs.Check.{Checks}
-use Rattle.checked.proofs.Outcome.{said-once, one-outcome}
+use Rattle.promise.specs.Check.{Checks}
+use Rattle.promise.proofs.Outcome.{said-once, one-outcome}
 use Rattle.write.specs.declared.Written.{Written}
 use Rattle.write.specs.Write.{answerFor, outputFor}
 use Rattle.write.proofs.Answers.{write-once}

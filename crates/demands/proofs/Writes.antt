@@ -20,7 +20,7 @@ use Rattle.tree.specs.Form.{Message}
 use Rattle.tree.specs.Pain008.{Document}
 use Rattle.message.specs.Verdict.{Verdict, Verdict.accepted}
 use Rattle.answer.specs.Said.{said}
-use Rattle.checked.specs.Check.{Checks}
+use Rattle.promise.specs.Check.{Checks}
 use Rattle.daylist.specs.declared.JudgedList.{JudgedList}
 use Rattle.daylist.specs.declared.JudgedList.the-variants.{Good, Refused as Bad}
 use Rattle.daylist.specs.Stages.{judgedList}
@@ -28,11 +28,11 @@ use Rattle.daylist.proofs.Early.{Early, list-number, list-early}
 use Rattle.daylist.proofs.Goods.{good-list}
 use Rattle.bundle.specs.Bundle.{Fits}
 use Rattle.bundle.proofs.Batches.{batches-fit, batches-number}
-use Rattle.listed.specs.Listed.{Collection, sameTerms, listed}
-use Rattle.listed.proofs.Terms.{terms-decide}
-use Rattle.listed.proofs.Goods.{good-number}
+use Rattle.collections.specs.Listed.{Collection, sameTerms, listed}
+use Rattle.collections.proofs.Terms.{terms-decide}
+use Rattle.collections.proofs.Goods.{good-number}
 use Rattle.written.specs.Written.{batchesFor, messageFor, written}
-use Rattle.write.specs.Write.{Answer, Answer.success, Answer.refused, needed, fitted, bundled, judged, after, answerFor, outputFor}
+use Rattle.write.specs.Write.{Answer, Answer.success, Answer.refused, batchesNeeded, fitted, bundled, asJudged, outputAfter, answerFor, outputFor}
 use Rattle.carries.specs.Carried.{carriedBy, CarriesList}
 use Rattle.carries.proofs.Lists.{list-carried, list-carries, list-fewest, list-refused, list-checked}
 use Rattle.desk.specs.declared.DeskWritten.{DeskWritten}
@@ -44,17 +44,17 @@ use Rattle.demands.specs.Demands.{MeetsNone, FixedMessage, FewestBatches
 -- the answer w in numbers, and the output out′ afterwards
 pub data Outcome (s : Bytes) (c : ℕ) (out : Bytes) (w : DeskWritten) (out′ : Bytes) : Type 0 where
   bad : 21 ≤ w .number → w .number ≤ 26 → out′ ≡ out → Outcome s c out w out′
-  many : (n : ℕ) → judgedList s c ≡ Good n → mostBatches < needed s c → w .number ≡ 27 → out′ ≡ out → Outcome s c out w out′
-  long : (n : ℕ) → judgedList s c ≡ Good n → needed s c ≤ mostBatches → length out < length (written s c) → w .number ≡ 28 → out′ ≡ out → Outcome s c out w out′
-  done : (n : ℕ) → judgedList s c ≡ Good n → needed s c ≤ mostBatches → w ≡ record { number = 0; place = length (written s c) } → out′ ≡ putAt out 0 (written s c)
+  many : (n : ℕ) → judgedList s c ≡ Good n → mostBatches < batchesNeeded s c → w .number ≡ 27 → out′ ≡ out → Outcome s c out w out′
+  long : (n : ℕ) → judgedList s c ≡ Good n → batchesNeeded s c ≤ mostBatches → length out < length (written s c) → w .number ≡ 28 → out′ ≡ out → Outcome s c out w out′
+  done : (n : ℕ) → judgedList s c ≡ Good n → batchesNeeded s c ≤ mostBatches → w ≡ record { number = 0; place = length (written s c) } → out′ ≡ putAt out 0 (written s c)
       → Outcome s c out w out′
 
 module _ (s : Bytes) (c : ℕ) (out : Bytes) where
   -- the outcome of an answer
   abbrev Ends : Answer → Type 0
-  Ends w = Outcome s c out (writtenNumbers w) (after w (written s c) out)
+  Ends w = Outcome s c out (writtenNumbers w) (outputAfter w (written s c) out)
 
-  fits : Dec (length (written s c) ≤ length out) → (n : ℕ) → judgedList s c ≡ Good n → needed s c ≤ mostBatches → Ends (fitted (written s c) (length out))
+  fits : Dec (length (written s c) ≤ length out) → (n : ℕ) → judgedList s c ≡ Good n → batchesNeeded s c ≤ mostBatches → Ends (fitted (written s c) (length out))
   fits (yes r) n e l =
       let h : fitted (written s c) (length out) ≡ success (length (written s c)) = rw (le-leb (length (written s c)) (length out) r, fitted) in
       subst Ends (sym h) (done n e l refl refl)
@@ -63,18 +63,18 @@ module _ (s : Bytes) (c : ℕ) (out : Bytes) where
       let h : fitted (written s c) (length out) ≡ refused (fault 28 (length (written s c))) = rw (lt-leb (length (written s c)) (length out) x, fitted) in
       subst Ends (sym h) (long n e l x refl refl)
 
-  bundles : Dec (needed s c ≤ mostBatches) → (n : ℕ) → judgedList s c ≡ Good n → Ends (bundled (needed s c) (fitted (written s c) (length out)))
+  bundles : Dec (batchesNeeded s c ≤ mostBatches) → (n : ℕ) → judgedList s c ≡ Good n → Ends (bundled (batchesNeeded s c) (fitted (written s c) (length out)))
   bundles (yes l) n e =
       let w : Answer = fitted (written s c) (length out) in
-      let h : bundled (needed s c) w ≡ w = rw (le-leb (needed s c) mostBatches l, bundled) in
+      let h : bundled (batchesNeeded s c) w ≡ w = rw (le-leb (batchesNeeded s c) mostBatches l, bundled) in
       subst Ends (sym h) (fits (decLe (length (written s c)) (length out)) n e l)
   bundles (no l) n e =
-      let x : mostBatches < needed s c = omega arith in
-      let h : bundled (needed s c) (fitted (written s c) (length out)) ≡ refused (fault 27 (needed s c)) = rw (lt-leb (needed s c) mostBatches x, bundled) in
+      let x : mostBatches < batchesNeeded s c = omega arith in
+      let h : bundled (batchesNeeded s c) (fitted (written s c) (length out)) ≡ refused (fault 27 (batchesNeeded s c)) = rw (lt-leb (batchesNeeded s c) mostBatches x, bundled) in
       subst Ends (sym h) (many n e x refl refl)
 
-  judges : (j : JudgedList) → judgedList s c ≡ j → Early j → Ends (judged j (bundled (needed s c) (fitted (written s c) (length out))))
-  judges (Good n) e h = bundles (decLe (needed s c) mostBatches) n e
+  judges : (j : JudgedList) → judgedList s c ≡ j → Early j → Ends (asJudged j (bundled (batchesNeeded s c) (fitted (written s c) (length out))))
+  judges (Good n) e h = bundles (decLe (batchesNeeded s c) mostBatches) n e
   judges (Bad r) e h = bad (list-number r .0) h refl
 
   pub outcome : Outcome s c out (writtenNumbers (answerFor s c (length out))) (outputFor s c out)
@@ -83,7 +83,7 @@ module _ (s : Bytes) (c : ℕ) (out : Bytes) where
 
 -- ─── the demands of each outcome ───
 
-short : (s : Bytes) (c n : ℕ) → judgedList s c ≡ Good n → needed s c ≤ mostBatches → length (written s c) ≤ mostBytes
+short : (s : Bytes) (c n : ℕ) → judgedList s c ≡ Good n → batchesNeeded s c ≤ mostBatches → length (written s c) ≤ mostBytes
 unfolding written
 short s c n e l = list-carries s c n e l .accepted .belongs .short
 
@@ -104,7 +104,7 @@ module _ (s : Bytes) (c : ℕ) (out : Bytes) (w : DeskWritten) (out′ : Bytes) 
   pub record Done : Type 0 where
     pub collections : ℕ
     pub good : judgedList s c ≡ Good collections
-    pub few : needed s c ≤ mostBatches
+    pub few : batchesNeeded s c ≤ mostBatches
     pub place : w .place ≡ length (written s c)
     pub output : out′ ≡ putAt out 0 (written s c)
 
@@ -115,7 +115,7 @@ module _ (s : Bytes) (c : ℕ) (out : Bytes) (w : DeskWritten) (out′ : Bytes) 
   is-done (done n e l x k) h = record { collections = n; good = e; few = l; place = ap (λ (v : DeskWritten). v .place) x; output = k }
 
   module _ (d : Done) where
-    carried : length (carriedBy (messageFor s c)) ≡ needed s c
+    carried : length (carriedBy (messageFor s c)) ≡ batchesNeeded s c
     carried =
         ap (λ (bs : List (List Collection)). length bs) (list-carried s c (d .collections) (d .good) (d .few))
         ∙ batches-number (λ x. x .terms) sameTerms terms-decide c (listed s) (good-list s c (d .collections) (d .good) .least)

@@ -27,10 +27,10 @@ use Rattle.message.specs.Message.{Batch, batchesOf, worth}
 use Rattle.message.specs.Verdict.{Verdict.accepted, totalsOf}
 use Rattle.answer.specs.declared.Checked.{Checked}
 use Rattle.answer.specs.Said.{said}
-use Rattle.checked.specs.Check.{saidBy, roomOf, Checks}
-use Rattle.checked.specs.Demand2.{Belongs, Enough}
+use Rattle.promise.specs.Check.{saidBy, roomOf, Checks}
+use Rattle.promise.specs.Demand2.{Belongs, Enough}
 use Rattle.bundle.specs.Bundle.{Fits}
-use Rattle.listed.specs.Listed.{listed}
+use Rattle.collections.specs.Listed.{listed}
 use Rattle.written.specs.Written.{messageFor}
 use Rattle.write.specs.declared.Written.{Written}
 use Rattle.write.specs.Write.{answered, answerFor, outputFor}

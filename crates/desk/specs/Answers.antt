@@ -1,13 +1,13 @@
 -- WHAT THE FUNCTIONS OF THE DESK ANSWER, in numbers. To be believed; definitions only.
 --   checkedNumbers v         number 0 and the totals of an accepted message; the number and place of a refusal, and totals 0
 --   writtenNumbers a         number 0 and the length of a written message; the number and place of a refusal
---   DeskChecks s slips rows r slips′ rows′   the check's promise (checked/specs/Check), its answer told in numbers
+--   DeskChecks s slips rows r slips′ rows′   the check's promise (promise/specs/Check), its answer told in numbers
 use Prim.Native.Nat.{ℕ}
 use mathlib.Core.List.{List}
 use mathlib.Core.Path.{_≡_}
 use Rattle.laws.specs.Bytes.{Bytes}
 use Rattle.message.specs.Verdict.{Verdict, Verdict.accepted, Verdict.refused}
-use Rattle.checked.specs.Check.{Checks}
+use Rattle.promise.specs.Check.{Checks}
 use Rattle.write.specs.Write.{Answer, Answer.success, Answer.refused as unwritten}
 use Rattle.desk.specs.declared.DeskChecked.{DeskChecked}
 use Rattle.desk.specs.declared.DeskWritten.{DeskWritten}

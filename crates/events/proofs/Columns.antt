@@ -14,7 +14,7 @@ use Rattle.laws.specs.Lists.{gather, All}
 use Rattle.laws.specs.Put.{putAt}
 use Rattle.laws.proofs.Loops.{drop-step}
 use Rattle.laws.proofs.Puts.{put-nil, put-two, put-append, put-back}
-use Rattle.heard.specs.State.{putIf}
+use Rattle.heard.specs.State.{putIfRoom}
 
 pub all-at : (P : ℕ → Type 0) (xs : List ℕ) (i : ℕ) → All P xs → i < length xs → P (getD xs i 0)
 all-at P [] i a h = absurd (not-suc-le-zero h)
@@ -45,10 +45,10 @@ module _ (f g : ℕ → ℕ) where
   columns-done out ps xs i h e = sym (put-nil out (2 * i)) ∙ ap (λ (l : List ℕ). putAt out (2 * i) (columns l)) (sym (drop-of-length-le ps h)) ∙ e
 
 module _ (out : List ℕ) (a n : ℕ) (xs : List ℕ) where
-  pub put-none : length out < a + n → out ≡ putIf out a n xs
+  pub put-none : length out < a + n → out ≡ putIfRoom out a n xs
   put-none h = rw (lt-leb (a + n) (length out) h) refl
 
-  pub put-lent : (ys : List ℕ) → a + n ≤ length out → length xs ≡ n → ys ≡ xs → take a out ++ (ys ++ drop (a + n - a) (drop a out)) ≡ putIf out a n xs
+  pub put-lent : (ys : List ℕ) → a + n ≤ length out → length xs ≡ n → ys ≡ xs → take a out ++ (ys ++ drop (a + n - a) (drop a out)) ≡ putIfRoom out a n xs
   put-lent ys h z y = rw y (put-back out xs a (a + n) (omega arith) (omega arith) ∙ sym (rw (le-leb (a + n) (length out) h) refl))
 
 -- ─── a list, number by number ───

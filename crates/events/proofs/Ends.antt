@@ -23,7 +23,7 @@ use Rattle.profile.specs.declared.Batch.{Batch}
 use Rattle.profile.specs.declared.Tally.{Tally}
 use Rattle.tree.specs.Parts as part
 use Rattle.message.specs.Verdict.{orElse}
-use Rattle.heard.specs.State.{ifAny, Word, countOf, sumOf, batchFrom, faultIn, declaredParts, rowNumbers, putIf, slipParts, slipNumbers, settledTally, settledSlips}
+use Rattle.heard.specs.State.{ifAny, Word, countOf, sumOf, batchFrom, faultIn, declaredParts, rowNumbers, putIfRoom, slipParts, slipNumbers, settledTally, settledSlips}
 use Rattle.heard.specs.Row.{Row, rowOf, stateOf, withFault}
 use Rattle.heard.specs.Bounds.{Within}
 use Rattle.heard.proofs.Rows.{any-some}
@@ -54,7 +54,7 @@ module _ (ns : List ℕ) (y : Tally) (s : List ℕ) where
   settled-closed m e z = go (y .batches) (getD ns (4 * part.transaction + 0) 0) (sym e ∙ z)
     where
       go : (k m : ℕ) → m ≡ 0 → (y ≡ ifAny k (ifAny m (withTransaction y (record { 0 = getD ns (4 * part.amount + 3) 0 })) y) y)
-          × (s ≡ ifAny k (ifAny m (putIf s (12 * (y .transactions .0 + y .count .0)) 12 (slipNumbers (y .batches) (rowOf ns .said))) s) s)
+          × (s ≡ ifAny k (ifAny m (putIfRoom s (12 * (y .transactions .0 + y .count .0)) 12 (slipNumbers (y .batches) (rowOf ns .said))) s) s)
       go zero m z = (refl, refl)
       go (suc k) m z = (rw z refl, rw z refl)
 
@@ -63,7 +63,7 @@ module _ (ns : List ℕ) (y : Tally) (s : List ℕ) where
   add-fits c w e = (omega (arith, w .transactions), omega (arith, w .cents, w .amount, e))
 
   pub settled-some : (m c : ℕ) (r : Tally) (s′ : List ℕ) → (y .batches ≡ 0 → ⊥) → m ≡ getD ns (4 * part.transaction + 0) 0 → (m ≡ 0 → ⊥) → c ≡ getD ns (4 * part.amount + 3) 0
-      → r ≡ withTransaction y (record { 0 = c }) → s′ ≡ putIf s (12 * (y .transactions .0 + y .count .0)) 12 (slipNumbers (y .batches) (rowOf ns .said))
+      → r ≡ withTransaction y (record { 0 = c }) → s′ ≡ putIfRoom s (12 * (y .transactions .0 + y .count .0)) 12 (slipNumbers (y .batches) (rowOf ns .said))
       → (r ≡ settledTally (stateOf ns y s [])) × (s′ ≡ settledSlips (stateOf ns y s []))
   unfolding rowOf
   settled-some m c r s′ b e z f g h = (

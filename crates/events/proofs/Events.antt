@@ -29,8 +29,8 @@ use Rattle.text.specs.Rules as rules
 use Rattle.tree.specs.Parts as part
 use Rattle.message.specs.declared.Told.{Told}
 use Rattle.message.specs.Verdict.{orElse, broken}
-use Rattle.heard.specs.State.{pick, ifAny, Word, nothing, opens, Limit, fewer, faultFrom, putIf, rowNumbers, State, settledTally, settledSlips, shut, added, began, saying, inside, step}
-use Rattle.heard.specs.Row.{Row, rowOf, stateOf, stateWith, withSaid, withoutFrom, withBad, withFault, withBatch, withTransaction}
+use Rattle.heard.specs.State.{ifTrue, ifAny, Word, nothing, opens, Limit, fewer, faultFrom, putIfRoom, rowNumbers, State, settledTally, settledSlips, shut, added, began, saying, insideBatch, step}
+use Rattle.heard.specs.Row.{Row, rowOf, stateOf, stateWith, withSaid, withoutFrom, withBad, withFault, withBatchCounted, withTransactionCounted}
 use Rattle.heard.specs.Bounds.{Within}
 use Rattle.heard.proofs.Rows.{any-some}
 use Rattle.heard.proofs.Bounds.{Small, settled-small}
@@ -62,7 +62,7 @@ module _ (w : Row) (y : Tally) (rows : List ℕ) where
   pub ended-none : y .batches ≡ 0 → (rows ≡ endedRows w y rows) × (w ≡ endedRow w y)
   ended-none z = (rw z refl, rw z refl)
 
-  pub ended-some : (rows′ : List ℕ) (w′ : Row) → (y .batches ≡ 0 → ⊥) → rows′ ≡ putIf rows (8 * (y .batches - 1)) 8 (rowNumbers (w .said) y) → w′ ≡ withFault w (faultFrom (w .said) y)
+  pub ended-some : (rows′ : List ℕ) (w′ : Row) → (y .batches ≡ 0 → ⊥) → rows′ ≡ putIfRoom rows (8 * (y .batches - 1)) 8 (rowNumbers (w .said) y) → w′ ≡ withFault w (faultFrom (w .said) y)
       → (rows′ ≡ endedRows w y rows) × (w′ ≡ endedRow w y)
   ended-some rows′ w′ n e f = (e ∙ any-some (y .batches) _ rows n, f ∙ any-some (y .batches) _ w n)
 
@@ -117,20 +117,20 @@ abbrev wordAt : ℕ → ℕ → Word
 wordAt a n = record { mark = 1; start = a; length = n; worth = 0 }
 
 -- what was said where an element of the part n begins
-opened : (n : ℕ) (x : Word) (u : ℕ → Word) (p : ℕ) → pick (eqb n p) x (pick (ltb p n) (u p) nothing) ≡ pick (eqb n p) x (opens n u p)
+opened : (n : ℕ) (x : Word) (u : ℕ → Word) (p : ℕ) → ifTrue (eqb n p) x (ifTrue (ltb p n) (u p) nothing) ≡ ifTrue (eqb n p) x (opens n u p)
 opened n x u p =
-    eqb-cases (λ z. pick z x (pick (ltb p n) (u p) nothing) ≡ pick z x (opens n u p)) n p (λ e. refl)
-    (λ d. ap (λ (z : Bool). pick (ltb p n) (u p) (pick z (record { mark = 1; start = 0; length = 0; worth = 0 }) nothing)) (sym (ne-eqb p n (λ e. d (sym e)))))
+    eqb-cases (λ z. ifTrue z x (ifTrue (ltb p n) (u p) nothing) ≡ ifTrue z x (opens n u p)) n p (λ e. refl)
+    (λ d. ap (λ (z : Bool). ifTrue (ltb p n) (u p) (ifTrue z (record { mark = 1; start = 0; length = 0; worth = 0 }) nothing)) (sym (ne-eqb p n (λ e. d (sym e)))))
 
 pub begin-fits : (ns ms : List ℕ) (y cl : Tally) (s s′ r r′ : List ℕ) → Within mostBytes (stateOf ns y [] []) → stateOf ms cl s′ r′ ≡ shut (stateOf ns y s r) → cl .batches + 1 < 2 ^ 64
 begin-fits ns ms y cl s s′ r r′ w e = let a = settled-small mostBytes (stateOf ns y [] []) w in omega (arith, a .batches, ap (λ (x : State). x .tally .batches) e)
 
 module _ (place a n : ℕ) (ms m₁ m₂ m₃ : List ℕ) (cl r : Tally) (s rows : List ℕ) (st : State) where
-  pub begins-batch : stateOf m₁ cl s rows ≡ shut st → rowOf m₂ ≡ withoutFrom (rowOf m₁) part.batch → rowOf m₃ ≡ withBatch (rowOf m₂) place
+  pub begins-batch : stateOf m₁ cl s rows ≡ shut st → rowOf m₂ ≡ withoutFrom (rowOf m₁) part.batch → rowOf m₃ ≡ withBatchCounted (rowOf m₂) place
       → rowOf ms ≡ withSaid (rowOf m₃) part.batch (wordAt a n) → r ≡ begun cl → stateOf ms r s rows ≡ step st (heldAt part.batch place a n)
   unfolding step
   begins-batch e₁ e₂ e₃ e₄ e₅ =
-      (λ i. stateWith ((e₄ ∙ ap (λ (w : Row). withSaid w part.batch (wordAt a n)) (e₃ ∙ ap (λ (w : Row). withBatch w place) e₂)) i) (e₅ i) s rows)
+      (λ i. stateWith ((e₄ ∙ ap (λ (w : Row). withSaid w part.batch (wordAt a n)) (e₃ ∙ ap (λ (w : Row). withBatchCounted w place) e₂)) i) (e₅ i) s rows)
       ∙ (λ i. begunFrom (e₁ i))
       ∙ (λ i. record {
         said = λ p. opened part.batch (wordAt a n) (shut st .said) p i;
@@ -148,7 +148,7 @@ module _ (place a n : ℕ) (ms m₁ m₂ m₃ : List ℕ) (cl r : Tally) (s rows
 
       begunFrom : State → State
       begunFrom x = record {
-        said = λ p. pick (eqb part.batch p) (wordAt a n) (pick (ltb p part.batch) (x .said p) nothing);
+        said = λ p. ifTrue (eqb part.batch p) (wordAt a n) (ifTrue (ltb p part.batch) (x .said p) nothing);
         bad = x .bad;
         batches = fewerOf (x .batches);
         transactions = x .transactions;
@@ -159,12 +159,12 @@ module _ (place a n : ℕ) (ms m₁ m₂ m₃ : List ℕ) (cl r : Tally) (s rows
       }
 
 module _ (place a n : ℕ) (ms m₁ m₂ m₃ : List ℕ) (y r : Tally) (s s′ rows : List ℕ) where
-  pub begins-transaction : r ≡ settledTally (stateOf m₁ y s []) → s′ ≡ settledSlips (stateOf m₁ y s []) → rowOf m₂ ≡ withoutFrom (rowOf m₁) part.transaction → rowOf m₃ ≡ withTransaction (rowOf m₂) place
+  pub begins-transaction : r ≡ settledTally (stateOf m₁ y s []) → s′ ≡ settledSlips (stateOf m₁ y s []) → rowOf m₂ ≡ withoutFrom (rowOf m₁) part.transaction → rowOf m₃ ≡ withTransactionCounted (rowOf m₂) place
       → rowOf ms ≡ withSaid (rowOf m₃) part.transaction (wordAt a n) → stateOf ms r s′ rows ≡ step (stateOf m₁ y s rows) (heldAt part.transaction place a n)
   unfolding step
   begins-transaction e₁ e₂ e₃ e₄ e₅ =
       let w : Row = rowOf m₁ in
-      (λ i. stateWith ((e₅ ∙ ap (λ (x : Row). withSaid x part.transaction (wordAt a n)) (e₄ ∙ ap (λ (x : Row). withTransaction x place) e₃)) i) (e₁ i) (e₂ i) rows)
+      (λ i. stateWith ((e₅ ∙ ap (λ (x : Row). withSaid x part.transaction (wordAt a n)) (e₄ ∙ ap (λ (x : Row). withTransactionCounted x place) e₃)) i) (e₁ i) (e₂ i) rows)
       ∙ (λ i. record {
         said = λ p. opened part.transaction (wordAt a n) (w .said) p i;
         bad = or-none (w .bad) i;
@@ -183,7 +183,7 @@ plain-step st t b c = rw (ne-eqb (t .part) part.batch b, ne-eqb (t .part) part.t
 
 plain-saying : (st : State) (t : Told) → (t .part ≡ part.batch → ⊥) → (t .part ≡ part.transaction → ⊥) → _≡_ {A = State}
     (record {
-      said = λ p. pick (eqb (t .part) p) (record { mark = 1; start = t .start; length = t .length; worth = rules.told (t .judged) }) (st .said p);
+      said = λ p. ifTrue (eqb (t .part) p) (record { mark = 1; start = t .start; length = t .length; worth = rules.numberTold (t .judged) }) (st .said p);
       bad = orElse (st .bad) (broken (t .judged) (t .start));
       batches = st .batches;
       transactions = st .transactions;

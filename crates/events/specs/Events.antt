@@ -13,18 +13,18 @@ use Rattle.text.specs.declared.Judged.{Judged}
 use Rattle.text.specs.Rules as rules
 use Rattle.tree.specs.Parts as part
 use Rattle.message.specs.Verdict.{broken}
-use Rattle.heard.specs.State.{ifAny, faultFrom, putIf, rowNumbers, State, shut}
+use Rattle.heard.specs.State.{ifAny, faultFrom, putIfRoom, rowNumbers, State, shut}
 use Rattle.heard.specs.Row.{Row, withSaid, withBad, withFault}
 use Rattle.tree.specs.Parts.{partsEnd}
 
 abbrev pub endedRows : Row → Tally → List ℕ → List ℕ
-endedRows w y rows = ifAny (y .batches) (putIf rows (8 * (y .batches - 1)) 8 (rowNumbers (w .said) y)) rows
+endedRows w y rows = ifAny (y .batches) (putIfRoom rows (8 * (y .batches - 1)) 8 (rowNumbers (w .said) y)) rows
 
 abbrev pub endedRow : Row → Tally → Row
 endedRow w y = ifAny (y .batches) (withFault w (faultFrom (w .said) y)) w
 
 abbrev pub toldRow : Row → ℕ → ℕ → ℕ → Judged → Row
-toldRow w p a n j = withBad (withSaid w p (record { mark = 1; start = a; length = n; worth = rules.told j })) (broken j a)
+toldRow w p a n j = withBad (withSaid w p (record { mark = 1; start = a; length = n; worth = rules.numberTold j })) (broken j a)
 
 pub record Plain (p : ℕ) : Type 0 where
   pub small : p < partsEnd

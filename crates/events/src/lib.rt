@@ -8,7 +8,7 @@ ghost use Rattle.profile.specs.Limits.{mostBytes};
 ghost use Rattle.tree.specs.Parts as part;
 ghost use Rattle.text.specs.Rules.{judged};
 ghost use Rattle.text.specs.declared.Judged.the-variants.{Good};
-ghost use Rattle.heard.specs.State.{batchFrom, faultIn, putIf, slipNumbers, rowNumbers, settledTally, settledSlips, shut, step};
+ghost use Rattle.heard.specs.State.{batchFrom, faultIn, putIfRoom, slipNumbers, rowNumbers, settledTally, settledSlips, shut, step};
 ghost use Rattle.heard.specs.Row.{heardLength, rowOf, stateOf, withFault};
 ghost use Rattle.tree.specs.Parts.{partsEnd};
 ghost use Rattle.heard.specs.Bounds.{Within};
@@ -68,7 +68,7 @@ fn fill_slip(slip: &mut [u64], heard: &[u64], k: u64)
 // The slip of the open transaction, behind those before it, where there is room.
 fn put_slip(heard: &[u64], slips: &mut [u64], tally: Tally)
     requires { ⌜ (length (now heard) ≡ heardLength) × (tally .transactions .0 + tally .count .0 ≤ mostBytes) ⌝ }
-    ensures { λ _. ⌜ now (slips .exit) ≡ putIf (now (slips .entry)) (12 * (tally .transactions .0 + tally .count .0)) 12 (slipNumbers (tally .batches) (rowOf (now (heard .entry)) .said)) ⌝ }
+    ensures { λ _. ⌜ now (slips .exit) ≡ putIfRoom (now (slips .entry)) (12 * (tally .transactions .0 + tally .count .0)) 12 (slipNumbers (tally .batches) (rowOf (now (heard .entry)) .said)) ⌝ }
 {
     let before = tally.transactions.0 + tally.count.0;
     let at = Profile::SLIP * before as usize;
@@ -150,7 +150,7 @@ fn fill_row(row: &mut [u64], heard: &[u64], tally: Tally)
 // The row of the open batch, behind those before it, where there is room.
 fn put_row(heard: &[u64], rows: &mut [u64], tally: Tally)
     requires { ⌜ (length (now heard) ≡ heardLength) × ((1 ≤ tally .batches) × Within (mostBytes + 1) (stateOf (now heard) tally [] [])) ⌝ }
-    ensures { λ _. ⌜ now (rows .exit) ≡ putIf (now (rows .entry)) (8 * (tally .batches - 1)) 8 (rowNumbers (rowOf (now (heard .entry)) .said) tally) ⌝ }
+    ensures { λ _. ⌜ now (rows .exit) ≡ putIfRoom (now (rows .entry)) (8 * (tally .batches - 1)) 8 (rowNumbers (rowOf (now (heard .entry)) .said) tally) ⌝ }
 {
     let before = tally.batches - 1;
     let at = Profile::ROW * before as usize;

@@ -18,10 +18,10 @@ use Rattle.laws.specs.Bytes.{Bytes}
 use Rattle.laws.proofs.Loops.{drop-step}
 use Rattle.laws.proofs.Tests.{and-r, T-true, true-T}
 use Rattle.frames.specs.declared.Frame.{Frame}
-use Rattle.frames.specs.declared.Part.{Part}
+use Rattle.frames.specs.declared.TextPart.{TextPart}
 use Rattle.frames.specs.Hex.{unhex}
 use Rattle.frames.specs.Frames.{holds, texts, framed, textsOf}
-use Rattle.frames.specs.Parts.{before, partOf}
+use Rattle.frames.specs.Parts.{bytesBefore, partOf}
 use Rattle.frames.proofs.Digits.{unhex-length}
 use Rattle.frames.proofs.Walks.{holds-short, holds-over, holds-go}
 
@@ -56,7 +56,7 @@ next-drop zero ts t r e = rw e
 next-drop (suc j) [] t r e = let z : _≡_ {A = ℕ} 0 1 = cc in absurd (omega (arith, z))
 next-drop (suc j) (u ∷ ts) t r e = let n : suc j + 1 ≡ suc (j + 1) = omega arith in rw n (next-drop j ts t r e)
 
-next-before : (j : ℕ) (ts : List Bytes) (t : Bytes) (r : List Bytes) → drop j ts ≡ t ∷ r → before (j + 1) ts ≡ before j ts + (1 + length t)
+next-before : (j : ℕ) (ts : List Bytes) (t : Bytes) (r : List Bytes) → drop j ts ≡ t ∷ r → bytesBefore (j + 1) ts ≡ bytesBefore j ts + (1 + length t)
 next-before zero ts t r e = rw e (omega arith)
 next-before (suc j) [] t r e = let z : _≡_ {A = ℕ} 0 1 = cc in absurd (omega (arith, z))
 next-before (suc j) (u ∷ ts) t r e = let n : suc j + 1 ≡ suc (j + 1) = omega arith in rw n (omega (arith, next-before j ts t r e))
@@ -69,7 +69,7 @@ next-get (suc j) (u ∷ ts) t r e = next-get j ts t r e
 pub record Come (f : Frame) (s : Bytes) (j at : ℕ) : Type 0 where
   pub held : holds (f .texts - j) (drop at s) ≡ true
   pub left : texts (f .texts - j) (drop at s) ≡ drop j (textsOf f s)
-  pub place : at ≡ 1 + f .lead + before j (textsOf f s)
+  pub place : at ≡ 1 + f .lead + bytesBefore j (textsOf f s)
 
 pub come-start : (f : Frame) (s : Bytes) → framed f s ≡ true → Come f s 0 (1 + f .lead)
 come-start f [] e = never (sym e)
@@ -100,7 +100,7 @@ module _ (f : Frame) (s : Bytes) (j at : ℕ) (c : Come f s j at) (h : j < f .te
         place = omega (arith, c .place, next-before j (textsOf f s) _ _ here, size);
       }
 
-  pub come-part : _≡_ {A = Part} (record { start = (at + 1) * 2; length = getD s at 0 * 2 }) (partOf f j s)
+  pub come-part : _≡_ {A = TextPart} (record { start = (at + 1) * 2; length = getD s at 0 * 2 }) (partOf f j s)
   come-part = rw (next-get j (textsOf f s) _ _ here, size, ← (c .place))
 
   -- and where it is told to be, its bytes are the text
@@ -129,16 +129,16 @@ unhex-take (suc n) l = let e : suc n * 2 ≡ suc (suc (n * 2)) = omega arith in 
 
 module _ (f : Frame) (line : Bytes) (e : framed f (unhex line) ≡ true) where
   -- the walk comes to each text
-  come-at : (i : ℕ) → i ≤ f .texts → Come f (unhex line) i (1 + f .lead + before i (textsOf f (unhex line)))
+  come-at : (i : ℕ) → i ≤ f .texts → Come f (unhex line) i (1 + f .lead + bytesBefore i (textsOf f (unhex line)))
   come-at zero h = let a : 1 + f .lead ≡ 1 + f .lead + 0 = omega arith in rw (← a) (come-start f (unhex line) e)
   come-at (suc i) h =
       let n : i + 1 ≡ suc i = omega arith in
-      let k = come-go f (unhex line) i (1 + f .lead + before i (textsOf f (unhex line))) (come-at i (omega arith)) (omega arith) in
+      let k = come-go f (unhex line) i (1 + f .lead + bytesBefore i (textsOf f (unhex line))) (come-at i (omega arith)) (omega arith) in
       rw (k .place, n) at k
 
   module _ (i : ℕ) (h : i < f .texts) where
     abbrev at : ℕ
-    at = 1 + f .lead + before i (textsOf f (unhex line))
+    at = 1 + f .lead + bytesBefore i (textsOf f (unhex line))
 
     walk : Come f (unhex line) i at
     walk = come-at i (omega arith)

@@ -1,11 +1,11 @@
 -- FRAMES: what a line holds. To be believed; definitions only.
 -- A frame is described by its kind byte, the number of its lead bytes and the number of its texts. A text is a length byte and its bytes.
---   creditor, collection   the two frames of document 01
---   frameOf n              the frame that line n must hold
---   holds n s              s is n texts, with nothing behind the last
---   texts n s              the first n texts of s
---   framed f s             the bytes s are a frame f
---   isFrame f l            the line l holds a frame f, and LF ends it
+--   creditorFrame, collectionFrame   the two frames of document 01
+--   frameOf n                        the frame that line n must hold
+--   holds n s                        s is n texts, with nothing behind the last
+--   texts n s                        the first n texts of s
+--   framed f s                       the bytes s are a frame f
+--   isFrame f l                      the line l holds a frame f, and LF ends it
 --   leadOf f s, textsOf f s   the lead bytes and the texts of a frame's bytes
 use Prim.Native.Nat.{ℕ, zero, suc, _+_}
 use mathlib.Core.Bool.{Bool, true, false, _&&_}
@@ -19,15 +19,15 @@ use Rattle.frames.specs.Hex.{hex, unhex}
 use Rattle.frames.specs.Fields.{creditorFields, collectionFields, byLine}
 
 -- byte 1, then the texts
-abbrev pub creditor : Frame
-creditor = record { kind = 1; lead = 0; texts = length creditorFields }
+abbrev pub creditorFrame : Frame
+creditorFrame = record { kind = 1; lead = 0; texts = length creditorFields }
 
 -- byte 2, scheme, sequence, cents in five bytes, then the texts
-abbrev pub collection : Frame
-collection = record { kind = 2; lead = 7; texts = length collectionFields }
+abbrev pub collectionFrame : Frame
+collectionFrame = record { kind = 2; lead = 7; texts = length collectionFields }
 
 abbrev pub frameOf : ℕ → Frame
-frameOf n = byLine n creditor collection
+frameOf n = byLine n creditorFrame collectionFrame
 
 abbrev pub holds : ℕ → Bytes → Bool
 holds zero [] = true

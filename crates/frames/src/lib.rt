@@ -26,7 +26,7 @@ pub struct Field {
 }
 
 // Where a text stands in its line: the digits of its bytes, two a byte.
-pub struct Part {
+pub struct TextPart {
     pub start: usize,
     pub length: usize,
 }
@@ -93,7 +93,7 @@ pub fn is_framed(line: &[u8], frame: Frame) -> bool
 }
 
 // Where the text number `i`, counted from 0, stands in a line that holds the frame.
-pub fn text_part(line: &[u8], frame: Frame, i: usize) -> Part
+pub fn text_part(line: &[u8], frame: Frame, i: usize) -> TextPart
     requires { ⌜ (framed frame (unhex (now line)) ≡ true) × (i < frame .texts) ⌝ }
     ensures { λ r. ⌜ r ≡ partOf frame i (unhex (now (line .entry))) ⌝ }
 {
@@ -105,7 +105,7 @@ pub fn text_part(line: &[u8], frame: Frame, i: usize) -> Part
         passed += 1;
     }
     let size = hex::byte_at(line, at) as usize;
-    Part {
+    TextPart {
         start: (at + 1) * 2,
         length: size * 2,
     }

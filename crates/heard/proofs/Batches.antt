@@ -20,9 +20,9 @@ use Rattle.profile.specs.declared.Tally.{Tally}
 use Rattle.tree.specs.Parts as part
 use Rattle.message.specs.declared.Told.{Told}
 use Rattle.message.specs.Message as M
-use Rattle.message.specs.Message.{is, before, parts, transactionOf, batchOf, centsOf, count, sum}
+use Rattle.message.specs.Message.{is, before, parts, transactionOf, batchOf, centsOf, exactCount, exactSum}
 use Rattle.message.specs.Verdict.{orElse, at, batchFault, slip, row}
-use Rattle.heard.specs.State.{pick, ifAny, Word, nothing, opens, faultFrom, putIf, slipNumbers, rowNumbers, State, settledTally, settledSlips, shut, added, began, saying, inside}
+use Rattle.heard.specs.State.{ifTrue, ifAny, Word, nothing, opens, faultFrom, putIfRoom, slipNumbers, rowNumbers, State, settledTally, settledSlips, shut, added, began, saying, insideBatch}
 use Rattle.heard.proofs.Fold.{by-bool, fold, stays, none-before, sections, run-view}
 use Rattle.heard.proofs.Words.{wordOf, saying-word, inside-word, saying-mark, span-word, declared-word, worth-word, count-word, sum-word}
 
@@ -40,7 +40,7 @@ addTransaction v x =
     let y = v .tally in
     record {
       tally = ifAny (y .batches) (withTransaction y (record { 0 = centsOf x })) y;
-      slips = ifAny (y .batches) (putIf (v .slips) (12 * (y .transactions .0 + y .count .0)) 12 (slip (y .batches) x)) (v .slips);
+      slips = ifAny (y .batches) (putIfRoom (v .slips) (12 * (y .transactions .0 + y .count .0)) 12 (slip (y .batches) x)) (v .slips);
     }
 
 -- the words of a transaction, in numbers
@@ -56,7 +56,7 @@ settled-words : (said : ℕ → Word) (y : Tally) (slips : List ℕ) (x : M.Tran
     → slipNumbers (y .batches) said ≡ slip (y .batches) x → _≡_ {A = Purse}
     (record {
       tally = ifAny (y .batches) (ifAny (said part.transaction .mark) (withTransaction y (record { 0 = said part.amount .worth })) y) y;
-      slips = ifAny (y .batches) (ifAny (said part.transaction .mark) (putIf slips (12 * (y .transactions .0 + y .count .0)) 12 (slipNumbers (y .batches) said)) slips) slips;
+      slips = ifAny (y .batches) (ifAny (said part.transaction .mark) (putIfRoom slips (12 * (y .transactions .0 + y .count .0)) 12 (slipNumbers (y .batches) said)) slips) slips;
     })
     (addTransaction (record { tally = y; slips = slips }) x)
 settled-words said y slips x m a s = rw (s, m, a) refl
@@ -78,7 +78,7 @@ one-transaction a p =
 -- the slips of transactions of the batch k, put from the nth place on
 abbrev pub slipsPut : ℕ → ℕ → List ℕ → List M.Transaction → List ℕ
 slipsPut k n out [] = out
-slipsPut k n out (x ∷ xs) = slipsPut k (n + 1) (putIf out (12 * n) 12 (slip k x)) xs
+slipsPut k n out (x ∷ xs) = slipsPut k (n + 1) (putIfRoom out (12 * n) 12 (slip k x)) xs
 
 abbrev tallyOf : ℕ → ℕ → ℕ → ℕ → ℕ → Tally
 tallyOf k n c m s = record { batches = k; transactions = record { 0 = n }; cents = record { 0 = c }; count = record { 0 = m }; sum = record { 0 = s } }
@@ -87,8 +87,8 @@ purse-all : (k n c m s : ℕ) (out : List ℕ) (xs : List M.Transaction) → fol
     ≡ record { tally = tallyOf (suc k) n c (m + length xs) (s + total centsOf xs); slips = slipsPut (suc k) (n + m) out xs }
 purse-all k n c m s out [] = rw (add-zero m, add-zero s) refl
 purse-all k n c m s out (x ∷ xs) =
-    purse-all k n c (m + 1) (s + centsOf x) (putIf out (12 * (n + m)) 12 (slip (suc k) x)) xs
-    ∙ same (putIf out (12 * (n + m)) 12 (slip (suc k) x)) (omega arith) (omega arith) (omega arith)
+    purse-all k n c (m + 1) (s + centsOf x) (putIfRoom out (12 * (n + m)) 12 (slip (suc k) x)) xs
+    ∙ same (putIfRoom out (12 * (n + m)) 12 (slip (suc k) x)) (omega arith) (omega arith) (omega arith)
   where
     same : (o : List ℕ) {i i′ j j′ l l′ : ℕ} → i ≡ i′ → j ≡ j′ → l ≡ l′ → _≡_ {A = Purse} (record { tally = tallyOf (suc k) n c i j; slips = slipsPut (suc k) l o xs })
         (record { tally = tallyOf (suc k) n c i′ j′; slips = slipsPut (suc k) l′ o xs })
@@ -112,20 +112,20 @@ closedOf st =
 abbrev pub addBatch : Closed → M.Batch → Closed
 addBatch v b = record {
   batches = suc (v .batches);
-  transactions = v .transactions + count b;
-  cents = v .cents + sum b;
+  transactions = v .transactions + exactCount b;
+  cents = v .cents + exactSum b;
   fault = orElse (v .fault) (batchFault b);
   slips = slipsPut (suc (v .batches)) (v .transactions) (v .slips) (b .transactions);
-  rows = putIf (v .rows) (8 * v .batches) 8 (row (v .transactions) b);
+  rows = putIfRoom (v .rows) (8 * v .batches) 8 (row (v .transactions) b);
 }
 
 -- the words of a batch: its fault, and its row in numbers
 module _ (k n c : ℕ) (b : M.Batch) (said : ℕ → Word) (d : said part.batchCount ≡ wordOf (b .declaredCount)) (e : said part.batchSum ≡ wordOf (b .declaredSum)) where
-  fault-words : faultFrom said (tallyOf (suc k) n c (count b) (sum b)) ≡ batchFault b
+  fault-words : faultFrom said (tallyOf (suc k) n c (exactCount b) (exactSum b)) ≡ batchFault b
   fault-words =
-      rw (d, e) (λ i. orElse (at 6 (count-word (b .declaredCount) (record { 0 = count b }) i)) (at 7 (sum-word (b .declaredSum) (record { 0 = sum b }) i)))
+      rw (d, e) (λ i. orElse (at 6 (count-word (b .declaredCount) (record { 0 = exactCount b }) i)) (at 7 (sum-word (b .declaredSum) (record { 0 = exactSum b }) i)))
 
-  row-words : said part.scheme ≡ wordOf (b .scheme) → said part.sequence ≡ wordOf (b .sequence) → rowNumbers said (tallyOf (suc k) n c (count b) (sum b)) ≡ row n b
+  row-words : said part.scheme ≡ wordOf (b .scheme) → said part.sequence ≡ wordOf (b .sequence) → rowNumbers said (tallyOf (suc k) n c (exactCount b) (exactSum b)) ≡ row n b
   row-words f g = rw (d, e, f, g) (rw (worth-word (b .scheme), worth-word (b .sequence), ← declared-word (b .declaredCount), ← declared-word (b .declaredSum)) refl)
 
 -- the open batch closed, in plain variables
@@ -136,28 +136,28 @@ close said y f slips rows = record {
   cents = y .cents .0 + y .sum .0;
   fault = ifAny (y .batches) (orElse f (faultFrom said y)) f;
   slips = slips;
-  rows = ifAny (y .batches) (putIf rows (8 * (y .batches - 1)) 8 (rowNumbers said y)) rows;
+  rows = ifAny (y .batches) (putIfRoom rows (8 * (y .batches - 1)) 8 (rowNumbers said y)) rows;
 }
 
 close-words : (said : ℕ → Word) (k n c : ℕ) (f : Option Fault) (slips rows : List ℕ) (b : M.Batch) {y : Tally} {f′ : Option Fault} {slips′ rows′ : List ℕ}
-    → y ≡ tallyOf (suc k) n c (count b) (sum b) → f′ ≡ f → slips′ ≡ slips → rows′ ≡ rows
-    → faultFrom said (tallyOf (suc k) n c (count b) (sum b)) ≡ batchFault b → rowNumbers said (tallyOf (suc k) n c (count b) (sum b)) ≡ row n b
+    → y ≡ tallyOf (suc k) n c (exactCount b) (exactSum b) → f′ ≡ f → slips′ ≡ slips → rows′ ≡ rows
+    → faultFrom said (tallyOf (suc k) n c (exactCount b) (exactSum b)) ≡ batchFault b → rowNumbers said (tallyOf (suc k) n c (exactCount b) (exactSum b)) ≡ row n b
     → _≡_ {A = Closed} (close said y f′ slips′ rows′)
-    (record { batches = suc k; transactions = n + count b; cents = c + sum b; fault = orElse f (batchFault b); slips = slips; rows = putIf rows (8 * k) 8 (row n b) })
+    (record { batches = suc k; transactions = n + exactCount b; cents = c + exactSum b; fault = orElse f (batchFault b); slips = slips; rows = putIfRoom rows (8 * k) 8 (row n b) })
 close-words said k n c f slips rows b ey ef es er ff fr =
     let o : suc k - 1 ≡ k = omega arith in
     rw (ey, ef, es, er) (rw (ff, fr, o) refl)
 
 -- inside a batch neither the first fault nor the rows change
-inside-fault : (st : State) (t : Told) → inside st t .fault ≡ st .fault
-inside-fault st t = by-bool (λ z. pick z (added st) st .fault ≡ st .fault) (is part.transaction t) refl refl
+inside-fault : (st : State) (t : Told) → insideBatch st t .fault ≡ st .fault
+inside-fault st t = by-bool (λ z. ifTrue z (added st) st .fault ≡ st .fault) (is part.transaction t) refl refl
 
-inside-rows : (st : State) (t : Told) → inside st t .rows ≡ st .rows
-inside-rows st t = by-bool (λ z. pick z (added st) st .rows ≡ st .rows) (is part.transaction t) refl refl
+inside-rows : (st : State) (t : Told) → insideBatch st t .rows ≡ st .rows
+inside-rows st t = by-bool (λ z. ifTrue z (added st) st .rows ≡ st .rows) (is part.transaction t) refl refl
 
-pub one-batch : (a : State) (p : List Told) → closedOf (fold inside (began a) p) ≡ addBatch (closedOf a) (batchOf p)
+pub one-batch : (a : State) (p : List Told) → closedOf (fold insideBatch (began a) p) ≡ addBatch (closedOf a) (batchOf p)
 one-batch a p =
-    let b : State = fold inside (began a) p in
+    let b : State = fold insideBatch (began a) p in
     let m : M.Batch = batchOf p in
     let v : Closed = closedOf a in
     let us : List Told = before part.transaction p in
@@ -167,16 +167,16 @@ one-batch a p =
     ap (λ (z : Word). z .mark) (saying-word part.transaction none (began a) us refl ∙ ap (λ (l : List Told). wordOf (M.lastOr none l)) (none-before part.transaction p)) in
     let start : purse b₀ ≡ record { tally = tallyOf (suc (v .batches)) (v .transactions) (v .cents) 0 0; slips = v .slips } =
     unsettled (b₀ .said) mark (stays saying (λ s. s .tally) (λ s t. refl) (began a) us) (stays saying (λ s. s .slips) (λ s t. refl) (began a) us) in
-    let full : purse b ≡ record { tally = tallyOf (suc (v .batches)) (v .transactions) (v .cents) (count m) (sum m); slips = slipsPut (suc (v .batches)) (v .transactions) (v .slips) (m .transactions) } =
+    let full : purse b ≡ record { tally = tallyOf (suc (v .batches)) (v .transactions) (v .cents) (exactCount m) (exactSum m); slips = slipsPut (suc (v .batches)) (v .transactions) (v .slips) (m .transactions) } =
     ap purse (sections part.transaction saying added (began a) p)
     ∙ run-view part.transaction saying added purse addTransaction transactionOf one-transaction b₀ (parts part.transaction p)
     ∙ ap (λ (z : Purse). fold addTransaction z (m .transactions)) start
     ∙ purse-all (v .batches) (v .transactions) (v .cents) 0 0 (v .slips) (m .transactions)
-    ∙ rw (zero-add (count m), zero-add (sum m), add-zero (v .transactions)) refl in
+    ∙ rw (zero-add (exactCount m), zero-add (exactSum m), add-zero (v .transactions)) refl in
     close-words (b .said) (v .batches) (v .transactions) (v .cents) (v .fault) _ (v .rows) m (ap (λ (z : Purse). z .tally) full)
-    (stays inside (λ s. s .fault) inside-fault (began a) p)
+    (stays insideBatch (λ s. s .fault) inside-fault (began a) p)
     (ap (λ (z : Purse). z .slips) full)
-    (stays inside (λ s. s .rows) inside-rows (began a) p)
+    (stays insideBatch (λ s. s .rows) inside-rows (began a) p)
     (fault-words (v .batches) (v .transactions) (v .cents) m (b .said) (w part.batchCount refl refl) (w part.batchSum refl refl))
     (row-words (v .batches) (v .transactions) (v .cents) m (b .said) (w part.batchCount refl refl) (w part.batchSum refl refl) (w part.scheme refl refl) (w part.sequence refl refl))
   where
@@ -184,7 +184,7 @@ one-batch a p =
     unsettled : (said : ℕ → Word) {y y′ : Tally} {slips slips′ : List ℕ} → said part.transaction .mark ≡ 0 → y ≡ y′ → slips ≡ slips′ → _≡_ {A = Purse}
         (record {
           tally = ifAny (y .batches) (ifAny (said part.transaction .mark) (withTransaction y (record { 0 = said part.amount .worth })) y) y;
-          slips = ifAny (y .batches) (ifAny (said part.transaction .mark) (putIf slips (12 * (y .transactions .0 + y .count .0)) 12 (slipNumbers (y .batches) said)) slips) slips;
+          slips = ifAny (y .batches) (ifAny (said part.transaction .mark) (putIfRoom slips (12 * (y .transactions .0 + y .count .0)) 12 (slipNumbers (y .batches) said)) slips) slips;
         })
         (record { tally = y′; slips = slips′ })
     unsettled said {y} {y′} {slips} {slips′} m e f = rw (m, e, f) (go (y′ .batches))

@@ -14,7 +14,7 @@ use Rattle.profile.specs.declared.Tally.{Tally}
 use Rattle.tree.specs.Parts as part
 use Rattle.message.specs.declared.Told.{Told}
 use Rattle.message.specs.Message.{is, worth}
-use Rattle.heard.specs.State.{pick, ifAny, Word, word, State, fresh, settledTally, added, began, saying, step}
+use Rattle.heard.specs.State.{ifTrue, ifAny, Word, word, State, fresh, settledTally, added, began, saying, step}
 use Rattle.heard.specs.Bounds.{Within, Sane}
 use Rattle.heard.proofs.Fold.{by-bool}
 
@@ -44,10 +44,10 @@ settled-small p st w = go (st .tally .batches) (st .said part.transaction .mark)
 -- what an event says
 module _ (q : ℕ) (t : Told) (s : Sane t) where
   -- a number that is told, or stays
-  told-small : (n m : ℕ) (w : Word) → (t .part ≡ n → worth t ≤ m) → w .worth ≤ m → pick (is n t) (word t) w .worth ≤ m
+  told-small : (n m : ℕ) (w : Word) → (t .part ≡ n → worth t ≤ m) → w .worth ≤ m → ifTrue (is n t) (word t) w .worth ≤ m
   told-small n m w f g = go (is n t) refl
     where
-      go : (z : Bool) → is n t ≡ z → pick z (word t) w .worth ≤ m
+      go : (z : Bool) → is n t ≡ z → ifTrue z (word t) w .worth ≤ m
       go true e = f (eqb-true (t .part) n e)
       go false e = g
 
@@ -79,6 +79,6 @@ module _ (p q : ℕ) (st : State) (t : Told) (w : Within p st) (h : p < q) (s : 
   unfolding step
   within-step =
       saying-small q t s _
-      (by-bool (λ z. Within q (pick (is part.transaction t) (added (pick z (began st) st)) (pick z (began st) st))) (is part.batch t)
-      (by-bool (λ z. Within q (pick z (added (began st)) (began st))) (is part.transaction t) both-small batch-small)
-      (by-bool (λ z. Within q (pick z (added st) st)) (is part.transaction t) transaction-small (within-more w (omega arith))))
+      (by-bool (λ z. Within q (ifTrue (is part.transaction t) (added (ifTrue z (began st) st)) (ifTrue z (began st) st))) (is part.batch t)
+      (by-bool (λ z. Within q (ifTrue z (added (began st)) (began st))) (is part.transaction t) both-small batch-small)
+      (by-bool (λ z. Within q (ifTrue z (added st) st)) (is part.transaction t) transaction-small (within-more w (omega arith))))

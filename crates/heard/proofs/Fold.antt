@@ -11,8 +11,8 @@ use mathlib.Core.List.{List, [], _∷_, map}
 use mathlib.Core.Option.{Option, some}
 use mathlib.Core.Path.{_≡_, refl, ap, sym, _∙_}
 use Rattle.message.specs.declared.Told.{Told}
-use Rattle.message.specs.Message.{is, before, parts, all, lastOr}
-use Rattle.heard.specs.State.{pick}
+use Rattle.message.specs.Message.{is, before, parts, allOf, lastOr}
+use Rattle.heard.specs.State.{ifTrue}
 
 -- two cases
 pub by-bool : (P : Bool → Type 0) (z : Bool) → P true → P false → P z
@@ -31,11 +31,11 @@ project f r g h s (e ∷ es) = project f r g h (f s e) es ∙ ap (λ x. fold r x
 
 -- a state that keeps the last n, seen through v
 pub keeps : {R : Type 0} (n : ℕ) (v : Told → R) (d : Option Told) (see : Option Told → R) → ((t : Told) → see (some t) ≡ v t)
-    → (ts : List Told) → fold (λ (x : R) (t : Told). pick (is n t) (v t) x) (see d) ts ≡ see (lastOr d (all n ts))
+    → (ts : List Told) → fold (λ (x : R) (t : Told). ifTrue (is n t) (v t) x) (see d) ts ≡ see (lastOr d (allOf n ts))
 keeps n v d see h [] = refl
 keeps {R} n v d see h (t ∷ ts) =
-    by-bool (λ z. fold (λ (x : R) (u : Told). pick (is n u) (v u) x) (pick z (v t) (see d)) ts ≡ see (lastOr d (elim z [ true ↦ t ∷ all n ts | false ↦ all n ts ]))) (is n t)
-    (ap (λ x. fold (λ (x : R) (u : Told). pick (is n u) (v u) x) x ts) (sym (h t)) ∙ keeps n v (some t) see h ts)
+    by-bool (λ z. fold (λ (x : R) (u : Told). ifTrue (is n u) (v u) x) (ifTrue z (v t) (see d)) ts ≡ see (lastOr d (elim z [ true ↦ t ∷ allOf n ts | false ↦ allOf n ts ]))) (is n t)
+    (ap (λ x. fold (λ (x : R) (u : Told). ifTrue (is n u) (v u) x) x ts) (sym (h t)) ∙ keeps n v (some t) see h ts)
     (keeps n v d see h ts)
 
 -- what no event changes
@@ -43,19 +43,19 @@ pub stays : {S R : Type 0} (f : S → Told → S) (g : S → R) → ((s : S) (t 
 stays f g h s [] = refl
 stays f g h s (t ∷ ts) = stays f g h (f s t) ts ∙ h s t
 
-pub none-before : (n : ℕ) (ts : List Told) → all n (before n ts) ≡ []
+pub none-before : (n : ℕ) (ts : List Told) → allOf n (before n ts) ≡ []
 none-before n [] = refl
 none-before n (t ∷ ts) = go (is n t) refl (none-before n ts)
   where
-    go : (z : Bool) → is n t ≡ z → all n (before n ts) ≡ [] → all n (elim z [ true ↦ [] | false ↦ t ∷ before n ts ]) ≡ []
+    go : (z : Bool) → is n t ≡ z → allOf n (before n ts) ≡ [] → allOf n (elim z [ true ↦ [] | false ↦ t ∷ before n ts ]) ≡ []
     go true e h = refl
-    go false e h = ap (λ (w : Bool). elim w [ true ↦ t ∷ all n (before n ts) | false ↦ all n (before n ts) ]) e ∙ h
+    go false e h = ap (λ (w : Bool). elim w [ true ↦ t ∷ allOf n (before n ts) | false ↦ allOf n (before n ts) ]) e ∙ h
 
 -- ─── sections: at each element of the part n, `next` closes the open one and opens another ───
 
 module _ {A : Type 0} (n : ℕ) (f : A → Told → A) (next : A → A) where
   abbrev pub turn : A → Told → A
-  turn a t = f (pick (is n t) (next a) a) t
+  turn a t = f (ifTrue (is n t) (next a) a) t
 
   -- part after part
   abbrev pub run : A → List (List Told) → A
@@ -65,7 +65,7 @@ module _ {A : Type 0} (n : ℕ) (f : A → Told → A) (next : A → A) where
   pub sections : (a : A) (ts : List Told) → fold turn a ts ≡ run (fold f a (before n ts)) (parts n ts)
   sections a [] = refl
   sections a (t ∷ ts) =
-      by-bool (λ z. fold turn (f (pick z (next a) a) t) ts
+      by-bool (λ z. fold turn (f (ifTrue z (next a) a) t) ts
       ≡ run (fold f a (elim z [ true ↦ [] | false ↦ t ∷ before n ts ])) (elim z [ true ↦ (t ∷ before n ts) ∷ parts n ts | false ↦ parts n ts ])) (is n t)
       (sections (f (next a) t) ts)
       (sections (f a t) ts)

@@ -26,8 +26,8 @@ use Rattle.laws.proofs.Tests.{eqb-cases, ltb-cases, and-l, and-r}
 use Rattle.profile.specs.Refusals.{Fault, fault}
 use Rattle.profile.specs.Totals.{freshTally}
 use Rattle.message.specs.Verdict.{orElse}
-use Rattle.heard.specs.State.{pick, ifAny, Word, nothing, Limit, fewer, fresh}
-use Rattle.heard.specs.Row.{heardLength, flawSlot, batchesSlot, transactionsSlot, faultSlot, wordAt, wordsIn, badIn, faultAt, Row, rowOf, stateOf, counted, withSaid, withoutFrom, withBad, withFault, withBatch, withTransaction}
+use Rattle.heard.specs.State.{ifTrue, ifAny, Word, nothing, Limit, fewer, fresh}
+use Rattle.heard.specs.Row.{heardLength, flawSlot, batchesSlot, transactionsSlot, faultSlot, wordAt, wordsIn, badIn, faultAt, Row, rowOf, stateOf, counted, withSaid, withoutFrom, withBad, withFault, withBatchCounted, withTransactionCounted}
 use Rattle.tree.specs.Parts.{partsEnd}
 
 pub any-some : {A : Type 0} (k : ℕ) (a b : A) → (k ≡ 0 → ⊥) → a ≡ ifAny k a b
@@ -57,7 +57,7 @@ module _ (ns xs : List ℕ) (at : ℕ) (room : at + length xs ≤ length ns) whe
   word-behind p h = word-out p (λ i b. get-behind ns xs at (4 * p + i) (omega arith) room)
 
   pub words-kept : flawSlot ≤ at → (p : ℕ) → wordsIn (putAt ns at xs) p ≡ wordsIn ns p
-  words-kept h p = ltb-cases (λ z. pick z (wordAt (putAt ns at xs) p) nothing ≡ pick z (wordAt ns p) nothing) p partsEnd (λ l. word-before p (omega arith)) (λ g. refl)
+  words-kept h p = ltb-cases (λ z. ifTrue z (wordAt (putAt ns at xs) p) nothing ≡ ifTrue z (wordAt ns p) nothing) p partsEnd (λ l. word-before p (omega arith)) (λ g. refl)
 
 -- what a part declares, whose mark is m: nothing, or the number that it tells
 module _ {A : Type 0} (of : ℕ → A) (no : A) (ns : List ℕ) (p m : ℕ) (l : p < partsEnd) (e : m ≡ getD ns (4 * p + 0) 0) where
@@ -68,7 +68,7 @@ module _ {A : Type 0} (of : ℕ → A) (no : A) (ns : List ℕ) (p m : ℕ) (l :
   unfolding rowOf
   in-words =
       ap (λ (i : ℕ). declares (getD ns i 0)) (add-zero (4 * p))
-      ∙ ap (λ (z : Bool). let w = pick z (wordAt ns p) nothing in ifAny (w .mark) (of (w .worth)) no) (sym (lt-ltb p partsEnd l))
+      ∙ ap (λ (z : Bool). let w = ifTrue z (wordAt ns p) nothing in ifAny (w .mark) (of (w .worth)) no) (sym (lt-ltb p partsEnd l))
 
   pub absent : m ≡ 0 → no ≡ ifAny (rowOf ns .said p .mark) (of (rowOf ns .said p .worth)) no
   absent z = ap declares (sym (sym e ∙ z)) ∙ in-words
@@ -84,12 +84,12 @@ module _ (ns : List ℕ) (q : ℕ) (x : Word) (h : length ns ≡ heardLength) (l
   abbrev put : List ℕ
   put = putAt ns (4 * q) numbers
 
-  pub words-put : (p : ℕ) → wordsIn put p ≡ pick (eqb q p) x (wordsIn ns p)
-  words-put p = eqb-cases (λ z. wordsIn put p ≡ pick z x (wordsIn ns p)) q p same other
+  pub words-put : (p : ℕ) → wordsIn put p ≡ ifTrue (eqb q p) x (wordsIn ns p)
+  words-put p = eqb-cases (λ z. wordsIn put p ≡ ifTrue z x (wordsIn ns p)) q p same other
     where
       same : q ≡ p → wordsIn put p ≡ x
       same e =
-          ap (wordsIn put) (sym e) ∙ ap (λ (z : Bool). pick z (wordAt put q) nothing) (lt-ltb q partsEnd l)
+          ap (wordsIn put) (sym e) ∙ ap (λ (z : Bool). ifTrue z (wordAt put q) nothing) (lt-ltb q partsEnd l)
           ∙ word-is (ap (λ (k : ℕ). getD put k 0) (omega arith) ∙ got 0 (omega arith)) (got 1 (omega arith)) (got 2 (omega arith)) (got 3 (omega arith))
         where
           got : (j : ℕ) → j < 4 → getD put (4 * q + j) 0 ≡ getD numbers j 0
@@ -97,7 +97,7 @@ module _ (ns : List ℕ) (q : ℕ) (x : Word) (h : length ns ≡ heardLength) (l
 
       other : q ≢ p → wordsIn put p ≡ wordsIn ns p
       other n =
-          ltb-cases (λ z. pick z (wordAt put p) nothing ≡ pick z (wordAt ns p) nothing) p partsEnd
+          ltb-cases (λ z. ifTrue z (wordAt put p) nothing ≡ ifTrue z (wordAt ns p) nothing) p partsEnd
           (λ b. ltb-cases (λ z. wordAt put p ≡ wordAt ns p) p q
           (λ s. word-before ns numbers (4 * q) (omega arith) p (omega arith))
           (λ g. word-behind ns numbers (4 * q) (omega arith) p (omega (arith, apart g))))
@@ -123,11 +123,11 @@ module _ (ns : List ℕ) (n : ℕ) (h : length ns ≡ heardLength) (l : n ≤ pa
       let e : i ≡ 4 * n + j = omega arith in
       ap (λ (k : ℕ). getD cut k 0) e ∙ get-in ns zeros (4 * n) j (omega (arith, long)) (omega arith) ∙ getD-replicate (flawSlot - 4 * n) j 0 0 (omega arith)
 
-  pub words-forgot : (p : ℕ) → wordsIn cut p ≡ pick (ltb p n) (wordsIn ns p) nothing
+  pub words-forgot : (p : ℕ) → wordsIn cut p ≡ ifTrue (ltb p n) (wordsIn ns p) nothing
   words-forgot p =
-      ltb-cases (λ z. wordsIn cut p ≡ pick z (wordsIn ns p) nothing) p n
-      (λ s. ltb-cases (λ z. pick z (wordAt cut p) nothing ≡ pick z (wordAt ns p) nothing) p partsEnd (λ b. word-before ns zeros (4 * n) (omega (arith, long)) p (omega arith)) (λ g. refl))
-      (λ g. ltb-cases (λ z. pick z (wordAt cut p) nothing ≡ nothing) p partsEnd
+      ltb-cases (λ z. wordsIn cut p ≡ ifTrue z (wordsIn ns p) nothing) p n
+      (λ s. ltb-cases (λ z. ifTrue z (wordAt cut p) nothing ≡ ifTrue z (wordAt ns p) nothing) p partsEnd (λ b. word-before ns zeros (4 * n) (omega (arith, long)) p (omega arith)) (λ g. refl))
+      (λ g. ltb-cases (λ z. ifTrue z (wordAt cut p) nothing ≡ nothing) p partsEnd
       (λ b. word-is (cut-in (4 * p) (omega arith) (omega arith)) (cut-in (4 * p + 1) (omega arith) (omega arith)) (cut-in (4 * p + 2) (omega arith) (omega arith)) (cut-in (4 * p + 3) (omega arith) (omega arith)))
       (λ t. refl))
 
@@ -168,12 +168,12 @@ module _ (ns xs : List ℕ) (at : ℕ) (h : length ns ≡ heardLength) (b : at +
 
 pub row-said : (ns : List ℕ) (q : ℕ) (x : Word) → length ns ≡ heardLength → q < partsEnd → rowOf (putAt ns (4 * q) (x .mark ∷ x .start ∷ x .length ∷ x .worth ∷ [])) ≡ withSaid (rowOf ns) q x
 unfolding rowOf
-row-said ns q x h l = row-words ns (x .mark ∷ x .start ∷ x .length ∷ x .worth ∷ []) (4 * q) h (omega arith) (λ p. pick (eqb q p) x (wordsIn ns p)) (words-put ns q x h l)
+row-said ns q x h l = row-words ns (x .mark ∷ x .start ∷ x .length ∷ x .worth ∷ []) (4 * q) h (omega arith) (λ p. ifTrue (eqb q p) x (wordsIn ns p)) (words-put ns q x h l)
 
 pub row-forgot : (ns : List ℕ) (n : ℕ) → length ns ≡ heardLength → n ≤ partsEnd → rowOf (putAt ns (4 * n) (replicate (flawSlot - 4 * n) 0)) ≡ withoutFrom (rowOf ns) n
 unfolding rowOf
 row-forgot ns n h l =
-    row-words ns (replicate (flawSlot - 4 * n) 0) (4 * n) h (omega (arith, long ns n h l)) (λ p. pick (ltb p n) (wordsIn ns p) nothing) (words-forgot ns n h l)
+    row-words ns (replicate (flawSlot - 4 * n) 0) (4 * n) h (omega (arith, long ns n h l)) (λ p. ifTrue (ltb p n) (wordsIn ns p) nothing) (words-forgot ns n h l)
 
 -- two numbers put into a slot
 module _ (ns : List ℕ) (a b : ℕ) (h : length ns ≡ heardLength) where
@@ -294,19 +294,19 @@ module _ (ns : List ℕ) (h : length ns ≡ heardLength) where
   fewer-is zero q p n = absurd (n refl)
   fewer-is (suc k) q p n = limit-is (omega arith) refl
 
-  pub batch-counted : (p : ℕ) → rowOf (counted ns batchesSlot p) ≡ withBatch (rowOf ns) p
+  pub batch-counted : (p : ℕ) → rowOf (counted ns batchesSlot p) ≡ withBatchCounted (rowOf ns) p
   unfolding rowOf
   batch-counted p = go (getD ns batchesSlot 0) refl
     where
-      go : (k : ℕ) → getD ns batchesSlot 0 ≡ k → rowOf (ifAny k (putAt ns batchesSlot ((getD ns batchesSlot 0 - 1) ∷ p ∷ [])) ns) ≡ withBatch (rowOf ns) p
+      go : (k : ℕ) → getD ns batchesSlot 0 ≡ k → rowOf (ifAny k (putAt ns batchesSlot ((getD ns batchesSlot 0 - 1) ∷ p ∷ [])) ns) ≡ withBatchCounted (rowOf ns) p
       go zero e = row-is (λ q. refl) refl (ap (λ (k : ℕ). limit k (getD ns (batchesSlot + 1) 0)) e ∙ ap (λ (k : ℕ). fewer k (getD ns (batchesSlot + 1) 0) p) (sym e)) refl refl
       go (suc k) e = row-batches ns _ p h ∙ row-is (λ q. refl) refl (fewer-is (getD ns batchesSlot 0) _ p (λ z. absurd (omega (arith, e, z)))) refl refl
 
-  pub transaction-counted : (p : ℕ) → rowOf (counted ns transactionsSlot p) ≡ withTransaction (rowOf ns) p
+  pub transaction-counted : (p : ℕ) → rowOf (counted ns transactionsSlot p) ≡ withTransactionCounted (rowOf ns) p
   unfolding rowOf
   transaction-counted p = go (getD ns transactionsSlot 0) refl
     where
-      go : (k : ℕ) → getD ns transactionsSlot 0 ≡ k → rowOf (ifAny k (putAt ns transactionsSlot ((getD ns transactionsSlot 0 - 1) ∷ p ∷ [])) ns) ≡ withTransaction (rowOf ns) p
+      go : (k : ℕ) → getD ns transactionsSlot 0 ≡ k → rowOf (ifAny k (putAt ns transactionsSlot ((getD ns transactionsSlot 0 - 1) ∷ p ∷ [])) ns) ≡ withTransactionCounted (rowOf ns) p
       go zero e = row-is (λ q. refl) refl refl (ap (λ (k : ℕ). limit k (getD ns (transactionsSlot + 1) 0)) e ∙ ap (λ (k : ℕ). fewer k (getD ns (transactionsSlot + 1) 0) p) (sym e)) refl
       go (suc k) e = row-transactions ns _ p h ∙ row-is (λ q. refl) refl refl (fewer-is (getD ns transactionsSlot 0) _ p (λ z. absurd (omega (arith, e, z)))) refl
 
@@ -340,5 +340,5 @@ fresh-row slips rows = λ i. record {
   where
     none-said : (p : ℕ) → wordsIn freshNumbers p ≡ nothing
     none-said p =
-        ltb-cases (λ z. pick z (wordAt freshNumbers p) nothing ≡ nothing) p partsEnd
+        ltb-cases (λ z. ifTrue z (wordAt freshNumbers p) nothing ≡ nothing) p partsEnd
         (λ l. blank-is (wordAt freshNumbers p) (below partsEnd (λ q. blank (wordAt freshNumbers q)) tt p l)) (λ g. refl)

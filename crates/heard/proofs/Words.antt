@@ -17,9 +17,9 @@ use Rattle.profile.specs.declared.NumberOfTransactions.{NumberOfTransactions}
 use Rattle.profile.specs.declared.ControlSum.{ControlSum}
 use Rattle.tree.specs.Parts as part
 use Rattle.message.specs.declared.Told.{Told}
-use Rattle.message.specs.Message.{is, all, lastOr, worth, worthOf}
-use Rattle.message.specs.Verdict.{unless, differs, span, declared}
-use Rattle.heard.specs.State.{pick, when, Word, nothing, word, countOf, sumOf, State, added, began, saying, inside, step}
+use Rattle.message.specs.Message.{is, allOf, lastOr, worth, worthOf}
+use Rattle.message.specs.Verdict.{unless, differs, startAndLength, declared}
+use Rattle.heard.specs.State.{ifTrue, when, Word, nothing, word, countOf, sumOf, State, added, began, saying, insideBatch, step}
 use Rattle.heard.proofs.Fold.{by-bool, fold, project, keeps}
 
 abbrev pub wordOf : Option Told → Word
@@ -28,39 +28,39 @@ wordOf (some t) = word t
 
 -- a word that goes by itself
 abbrev hear : ℕ → Word → Told → Word
-hear p x t = pick (is p t) (word t) x
+hear p x t = ifTrue (is p t) (word t) x
 
-pub saying-word : (p : ℕ) (d : Option Told) (st : State) (ts : List Told) → st .said p ≡ wordOf d → fold saying st ts .said p ≡ wordOf (lastOr d (all p ts))
+pub saying-word : (p : ℕ) (d : Option Told) (st : State) (ts : List Told) → st .said p ≡ wordOf d → fold saying st ts .said p ≡ wordOf (lastOr d (allOf p ts))
 saying-word p d st ts e =
     project saying (hear p) (λ x. x .said p) (λ x t. refl) st ts ∙ ap (λ (w : Word). fold (hear p) w ts) e ∙ keeps p word d wordOf (λ t. refl) ts
 
 pub inside-word : (p : ℕ) (d : Option Told) (st : State) (ts : List Told) → ltb p part.transaction ≡ true → st .said p ≡ wordOf d
-    → fold inside st ts .said p ≡ wordOf (lastOr d (all p ts))
+    → fold insideBatch st ts .said p ≡ wordOf (lastOr d (allOf p ts))
 inside-word p d st ts h e =
-    project inside (hear p) (λ x. x .said p) same st ts ∙ ap (λ (w : Word). fold (hear p) w ts) e ∙ keeps p word d wordOf (λ t. refl) ts
+    project insideBatch (hear p) (λ x. x .said p) same st ts ∙ ap (λ (w : Word). fold (hear p) w ts) e ∙ keeps p word d wordOf (λ t. refl) ts
   where
-    same : (x : State) (t : Told) → inside x t .said p ≡ hear p (x .said p) t
-    same x t = by-bool (λ z. hear p (pick z (added x) x .said p) t ≡ hear p (x .said p) t) (is part.transaction t) (rw h refl) refl
+    same : (x : State) (t : Told) → insideBatch x t .said p ≡ hear p (x .said p) t
+    same x t = by-bool (λ z. hear p (ifTrue z (added x) x .said p) t ≡ hear p (x .said p) t) (is part.transaction t) (rw h refl) refl
 
 pub step-word : (p : ℕ) (d : Option Told) (st : State) (ts : List Told) → ltb p part.batch ≡ true → ltb p part.transaction ≡ true → st .said p ≡ wordOf d
-    → fold step st ts .said p ≡ wordOf (lastOr d (all p ts))
+    → fold step st ts .said p ≡ wordOf (lastOr d (allOf p ts))
 unfolding step
 step-word p d st ts h i e =
     project step (hear p) (λ x. x .said p) same st ts ∙ ap (λ (w : Word). fold (hear p) w ts) e ∙ keeps p word d wordOf (λ t. refl) ts
   where
-    in-batch : (x : State) (t : Told) → inside x t .said p ≡ hear p (x .said p) t
-    in-batch x t = by-bool (λ z. hear p (pick z (added x) x .said p) t ≡ hear p (x .said p) t) (is part.transaction t) (rw i refl) refl
+    in-batch : (x : State) (t : Told) → insideBatch x t .said p ≡ hear p (x .said p) t
+    in-batch x t = by-bool (λ z. hear p (ifTrue z (added x) x .said p) t ≡ hear p (x .said p) t) (is part.transaction t) (rw i refl) refl
 
     same : (x : State) (t : Told) → step x t .said p ≡ hear p (x .said p) t
     same x t =
-        in-batch (pick (is part.batch t) (began x) x) t
-        ∙ by-bool (λ z. hear p (pick z (began x) x .said p) t ≡ hear p (x .said p) t) (is part.batch t) (rw h refl) refl
+        in-batch (ifTrue (is part.batch t) (began x) x) t
+        ∙ by-bool (λ z. hear p (ifTrue z (began x) x .said p) t ≡ hear p (x .said p) t) (is part.batch t) (rw h refl) refl
 
 pub saying-mark : (p : ℕ) (st : State) (ts : List Told) → st .said p .mark ≡ 1 → fold saying st ts .said p .mark ≡ 1
 saying-mark p st [] h = h
-saying-mark p st (t ∷ ts) h = saying-mark p (saying st t) ts (by-bool (λ z. pick z (word t) (st .said p) .mark ≡ 1) (is p t) refl h)
+saying-mark p st (t ∷ ts) h = saying-mark p (saying st t) ts (by-bool (λ z. ifTrue z (word t) (st .said p) .mark ≡ 1) (is p t) refl h)
 
-pub span-word : (o : Option Told) → wordOf o .start ∷ wordOf o .length ∷ [] ≡ span o
+pub span-word : (o : Option Told) → wordOf o .start ∷ wordOf o .length ∷ [] ≡ startAndLength o
 span-word none = refl
 span-word (some t) = refl
 

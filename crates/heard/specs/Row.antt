@@ -4,7 +4,7 @@
 --   Row, rowOf ns      what the numbers tell
 --   stateOf ns y s r   with the tally y and the tables s and r
 --   badIn, faultAt     a first fault in two numbers
---   withSaid, withoutFrom, withBad, withBatch, withTransaction, withFault   what each of the stores does
+--   withSaid, withoutFrom, withBad, withBatchCounted, withTransactionCounted, withFault   what each of the stores does
 use Prim.Native.Nat.{ℕ, zero, suc, _+_, _-_, _*_}
 use mathlib.Core.List.{List, [], _∷_}
 use mathlib.Core.Option.{Option, none, some}
@@ -17,7 +17,7 @@ use Rattle.profile.specs.declared.Flaw.the-variants.{Length, Letter, Slash, Num
 use Rattle.profile.specs.declared.Tally.{Tally}
 use Rattle.tree.specs.Parts.{partsEnd}
 use Rattle.message.specs.Verdict.{orElse}
-use Rattle.heard.specs.State.{pick, ifAny, Word, nothing, Limit, fewer, State}
+use Rattle.heard.specs.State.{ifTrue, ifAny, Word, nothing, Limit, fewer, State}
 
 abbrev pub flawSlot : ℕ
 flawSlot = 72
@@ -40,7 +40,7 @@ abbrev pub wordAt : List ℕ → ℕ → Word
 wordAt ns p = record { mark = getD ns (4 * p) 0; start = getD ns (4 * p + 1) 0; length = getD ns (4 * p + 2) 0; worth = getD ns (4 * p + 3) 0 }
 
 abbrev pub wordsIn : List ℕ → ℕ → Word
-wordsIn ns p = pick (ltb p partsEnd) (wordAt ns p) nothing
+wordsIn ns p = ifTrue (ltb p partsEnd) (wordAt ns p) nothing
 
 abbrev pub limitAt : List ℕ → ℕ → Limit
 limitAt ns i = record { left = getD ns i 0; place = getD ns (i + 1) 0 }
@@ -94,10 +94,10 @@ abbrev pub counted : List ℕ → ℕ → ℕ → List ℕ
 counted ns i p = ifAny (getD ns i 0) (putAt ns i ((getD ns i 0 - 1) ∷ p ∷ [])) ns
 
 abbrev pub withSaid : Row → ℕ → Word → Row
-withSaid w q x = record { said = λ p. pick (eqb q p) x (w .said p); bad = w .bad; batches = w .batches; transactions = w .transactions; fault = w .fault }
+withSaid w q x = record { said = λ p. ifTrue (eqb q p) x (w .said p); bad = w .bad; batches = w .batches; transactions = w .transactions; fault = w .fault }
 
 abbrev pub withoutFrom : Row → ℕ → Row
-withoutFrom w n = record { said = λ p. pick (ltb p n) (w .said p) nothing; bad = w .bad; batches = w .batches; transactions = w .transactions; fault = w .fault }
+withoutFrom w n = record { said = λ p. ifTrue (ltb p n) (w .said p) nothing; bad = w .bad; batches = w .batches; transactions = w .transactions; fault = w .fault }
 
 abbrev pub withBad : Row → Option Fault → Row
 withBad w f = record { said = w .said; bad = orElse (w .bad) f; batches = w .batches; transactions = w .transactions; fault = w .fault }
@@ -105,8 +105,8 @@ withBad w f = record { said = w .said; bad = orElse (w .bad) f; batches = w .bat
 abbrev pub withFault : Row → Option Fault → Row
 withFault w f = record { said = w .said; bad = w .bad; batches = w .batches; transactions = w .transactions; fault = orElse (w .fault) f }
 
-abbrev pub withBatch : Row → ℕ → Row
-withBatch w p = record {
+abbrev pub withBatchCounted : Row → ℕ → Row
+withBatchCounted w p = record {
   said = w .said;
   bad = w .bad;
   batches = fewer (w .batches .left) (w .batches .place) p;
@@ -114,8 +114,8 @@ withBatch w p = record {
   fault = w .fault;
 }
 
-abbrev pub withTransaction : Row → ℕ → Row
-withTransaction w p = record {
+abbrev pub withTransactionCounted : Row → ℕ → Row
+withTransactionCounted w p = record {
   said = w .said;
   bad = w .bad;
   batches = w .batches;

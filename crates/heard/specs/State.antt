@@ -1,12 +1,12 @@
 -- WHAT WAS HEARD of a message so far, as the code keeps it, and its step for one event. Executable; that it is right is proofs/Right.
---   pick z a b, ifAny k a b   a where the test z holds, or k is not 0; else b
---   when z p                  p where the test z holds; else none
---   Word, nothing, word t     what a part last said: 1, its text's start and length, and the number that it tells; all 0 where it said nothing
---   Limit, limitStep n l t    how many elements of the part n may still come before one is too many, and the place of the last one
---   State                     what was said, part by part; first faults; the tally; the two lent tables
---   settled, shut st          the open transaction added; the open batch closed too
---   added, began, saying      the three things that an event does: it begins a transaction, or a batch, and its text says something
---   step st t                 what was heard with the event t
+--   ifTrue z a b, ifAny k a b   a where the test z holds, or k is not 0; else b
+--   when z p                    p where the test z holds; else none
+--   Word, nothing, word t       what a part last said: 1, its text's start and length, and the number that it tells; all 0 where it said nothing
+--   Limit, limitStep n l t      how many elements of the part n may still come before one is too many, and the place of the last one
+--   State                       what was said, part by part; first faults; the tally; the two lent tables
+--   settled, shut st            the open transaction added; the open batch closed too
+--   added, began, saying        the three things that an event does: it begins a transaction, or a batch, and its text says something
+--   step st t                   what was heard with the event t
 use Prim.Native.Nat.{ℕ, zero, suc, _+_, _-_, _*_}
 use mathlib.Core.Bool.{Bool, true, false}
 use mathlib.Core.List.{List, [], _∷_, _++_}
@@ -29,16 +29,16 @@ use Rattle.message.specs.declared.Told.{Told}
 use Rattle.message.specs.Message.{is, worth}
 use Rattle.message.specs.Verdict.{at, orElse, broken}
 
-abbrev pub pick : {A : Type 0} → Bool → A → A → A
-pick true a b = a
-pick false a b = b
+abbrev pub ifTrue : {A : Type 0} → Bool → A → A → A
+ifTrue true a b = a
+ifTrue false a b = b
 
 abbrev pub ifAny : {A : Type 0} → ℕ → A → A → A
 ifAny zero a b = b
 ifAny (suc k) a b = a
 
 abbrev pub when : Bool → ℕ → Option ℕ
-when z p = pick z (some p) none
+when z p = ifTrue z (some p) none
 
 -- ─── 1. What a part last said ───
 
@@ -56,7 +56,7 @@ word t = record { mark = 1; start = t .start; length = t .length; worth = worth 
 
 -- an element of the part n begins: from n on nothing is said, but that n is
 abbrev pub opens : ℕ → (ℕ → Word) → ℕ → Word
-opens n said p = pick (ltb p n) (said p) (pick (eqb p n) (record { mark = 1; start = 0; length = 0; worth = 0 }) nothing)
+opens n said p = ifTrue (ltb p n) (said p) (ifTrue (eqb p n) (record { mark = 1; start = 0; length = 0; worth = 0 }) nothing)
 
 -- ─── 2. Limits ───
 
@@ -70,7 +70,7 @@ fewer zero q p = record { left = 0; place = q }
 fewer (suc k) q p = record { left = k; place = p }
 
 abbrev pub limitStep : ℕ → Limit → Told → Limit
-limitStep n l t = pick (is n t) (fewer (l .left) (l .place) (t .place)) l
+limitStep n l t = ifTrue (is n t) (fewer (l .left) (l .place) (t .place)) l
 
 abbrev pub over : ℕ → ℕ → Option ℕ
 over zero p = some p
@@ -97,8 +97,8 @@ faultFrom said y = faultIn (batchFrom said y) (said part.batchCount .start) (sai
 -- ─── 4. The rows ───
 
 -- n numbers put at a place, where there is room
-abbrev pub putIf : List ℕ → ℕ → ℕ → List ℕ → List ℕ
-putIf out at n xs = pick (leb (at + n) (length out)) (putAt out at xs) out
+abbrev pub putIfRoom : List ℕ → ℕ → ℕ → List ℕ → List ℕ
+putIfRoom out at n xs = ifTrue (leb (at + n) (length out)) (putAt out at xs) out
 
 abbrev pub slipParts : List ℕ
 slipParts = part.endToEnd ∷ part.mandate ∷ part.debtorName ∷ part.debtorAccount ∷ part.remittance ∷ []
@@ -149,7 +149,7 @@ settledTally st =
 abbrev pub settledSlips : State → List ℕ
 settledSlips st =
     let y = st .tally in
-    ifAny (y .batches) (ifAny (st .said part.transaction .mark) (putIf (st .slips) (12 * (y .transactions .0 + y .count .0)) 12 (slipNumbers (y .batches) (st .said))) (st .slips)) (st .slips)
+    ifAny (y .batches) (ifAny (st .said part.transaction .mark) (putIfRoom (st .slips) (12 * (y .transactions .0 + y .count .0)) 12 (slipNumbers (y .batches) (st .said))) (st .slips)) (st .slips)
 
 abbrev pub settled : State → State
 settled st = record {
@@ -176,7 +176,7 @@ shut st =
       fault = ifAny k (orElse (st .fault) (faultFrom (st .said) y)) (st .fault);
       tally = closed y;
       slips = settledSlips st;
-      rows = ifAny k (putIf (st .rows) (8 * (k - 1)) 8 (rowNumbers (st .said) y)) (st .rows);
+      rows = ifAny k (putIfRoom (st .rows) (8 * (k - 1)) 8 (rowNumbers (st .said) y)) (st .rows);
     }
 
 -- a transaction begins
@@ -212,7 +212,7 @@ began st =
 -- what an event says
 abbrev pub saying : State → Told → State
 saying st t = record {
-  said = λ p. pick (is p t) (word t) (st .said p);
+  said = λ p. ifTrue (is p t) (word t) (st .said p);
   bad = orElse (st .bad) (broken (t .judged) (t .start));
   batches = limitStep part.batch (st .batches) t;
   transactions = limitStep part.transaction (st .transactions) t;
@@ -223,8 +223,8 @@ saying st t = record {
 }
 
 -- inside a batch
-abbrev pub inside : State → Told → State
-inside st t = saying (pick (is part.transaction t) (added st) st) t
+abbrev pub insideBatch : State → Told → State
+insideBatch st t = saying (ifTrue (is part.transaction t) (added st) st) t
 
 unfoldable pub step : State → Told → State
-step st t = inside (pick (is part.batch t) (began st) st) t
+step st t = insideBatch (ifTrue (is part.batch t) (began st) st) t

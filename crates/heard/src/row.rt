@@ -7,7 +7,7 @@ ghost use lib.ListN.{length, getD};
 ghost use Rattle.profile.specs.Refusals.{flawed, fault};
 ghost use Rattle.profile.specs.Totals.{freshTally};
 ghost use Rattle.heard.specs.State.{countOf, sumOf, fresh};
-ghost use Rattle.heard.specs.Row.{heardLength, rowOf, stateOf, badIn, counted, withSaid, withoutFrom, withBad, withFault, withBatch, withTransaction};
+ghost use Rattle.heard.specs.Row.{heardLength, rowOf, stateOf, badIn, counted, withSaid, withoutFrom, withBad, withFault, withBatchCounted, withTransactionCounted};
 ghost use Rattle.tree.specs.Parts.{partsEnd};
 use crate::Slot;
 use crate::Word;
@@ -150,7 +150,7 @@ fn count(heard: &mut [u64], slot: usize, place: usize)
 // One batch more, whose opening tag stands at this place.
 pub fn count_batch(heard: &mut [u64], place: usize)
     requires { ⌜ length (now heard) ≡ heardLength ⌝ }
-    ensures { λ _. ⌜ rowOf (now (heard .exit)) ≡ withBatch (rowOf (now (heard .entry))) place ⌝ }
+    ensures { λ _. ⌜ rowOf (now (heard .exit)) ≡ withBatchCounted (rowOf (now (heard .entry))) place ⌝ }
 {
     count(heard, Slot::BATCHES, place);
 }
@@ -158,7 +158,7 @@ pub fn count_batch(heard: &mut [u64], place: usize)
 // One transaction more.
 pub fn count_transaction(heard: &mut [u64], place: usize)
     requires { ⌜ length (now heard) ≡ heardLength ⌝ }
-    ensures { λ _. ⌜ rowOf (now (heard .exit)) ≡ withTransaction (rowOf (now (heard .entry))) place ⌝ }
+    ensures { λ _. ⌜ rowOf (now (heard .exit)) ≡ withTransactionCounted (rowOf (now (heard .entry))) place ⌝ }
 {
     count(heard, Slot::TRANSACTIONS, place);
 }

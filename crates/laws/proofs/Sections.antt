@@ -1,4 +1,4 @@
--- THE LAWS OF `is`, `before`, `parts`, `all`, `lastOr` AND `the`.
+-- THE LAWS OF `is`, `before`, `parts`, `allOf`, `lastOr` AND `the`.
 --   map-before, map-parts, map-all, map-the   what is found among elements that are made of others
 --   length-all                                there are as many elements of a part as its parts
 use Prim.Native.Nat.{ℕ, suc}
@@ -7,7 +7,7 @@ use mathlib.Core.List.{List, [], _∷_, map}
 use mathlib.Core.Option.{Option, none, some}
 use mathlib.Core.Path.{_≡_, refl, ap, ap₂, _∙_}
 use lib.ListN.{length}
-use Rattle.laws.specs.Sections.{is, before, parts, all, lastOr, the}
+use Rattle.laws.specs.Sections.{is, before, parts, allOf, lastOr, the}
 
 -- h makes an element of another, and keeps its part
 module _ {A B : Type 0} (h : A → B) (part : B → ℕ) (n : ℕ) where
@@ -33,12 +33,12 @@ module _ {A B : Type 0} (h : A → B) (part : B → ℕ) (n : ℕ) where
       go true b e = ap₂ {C = List (List B)} (λ (l : List B) (r : List (List B)). (h x ∷ l) ∷ r) b e
       go false b e = e
 
-  pub map-all : (xs : List A) → map h (all of n xs) ≡ all part n (map h xs)
+  pub map-all : (xs : List A) → map h (allOf of n xs) ≡ allOf part n (map h xs)
   map-all [] = refl
   map-all (x ∷ xs) = go (is of n x) (map-all xs)
     where
-      go : (z : Bool) → map h (all of n xs) ≡ all part n (map h xs)
-          → map h (elim z [ true ↦ x ∷ all of n xs | false ↦ all of n xs ]) ≡ elim z [ true ↦ h x ∷ all part n (map h xs) | false ↦ all part n (map h xs) ]
+      go : (z : Bool) → map h (allOf of n xs) ≡ allOf part n (map h xs)
+          → map h (elim z [ true ↦ x ∷ allOf of n xs | false ↦ allOf of n xs ]) ≡ elim z [ true ↦ h x ∷ allOf part n (map h xs) | false ↦ allOf part n (map h xs) ]
       go true e = ap {B = List B} (λ (l : List B). h x ∷ l) e
       go false e = e
 
@@ -52,15 +52,15 @@ module _ {A B : Type 0} (h : A → B) where
   map-last o (x ∷ xs) = map-last (some x) xs
 
   pub map-the : (part : B → ℕ) (n : ℕ) (xs : List A) → mapIf h (the (λ x. part (h x)) n xs) ≡ the part n (map h xs)
-  map-the part n xs = map-last none (all (λ x. part (h x)) n xs) ∙ ap (lastOr none) (map-all h part n xs)
+  map-the part n xs = map-last none (allOf (λ x. part (h x)) n xs) ∙ ap (lastOr none) (map-all h part n xs)
 
 module _ {A : Type 0} (part : A → ℕ) (n : ℕ) where
-  pub length-all : (xs : List A) → length (all part n xs) ≡ length (parts part n xs)
+  pub length-all : (xs : List A) → length (allOf part n xs) ≡ length (parts part n xs)
   length-all [] = refl
   length-all (x ∷ xs) = go (is part n x) (length-all xs)
     where
-      go : (z : Bool) → length (all part n xs) ≡ length (parts part n xs)
-          → length {A = A} (elim z [ true ↦ x ∷ all part n xs | false ↦ all part n xs ])
+      go : (z : Bool) → length (allOf part n xs) ≡ length (parts part n xs)
+          → length {A = A} (elim z [ true ↦ x ∷ allOf part n xs | false ↦ allOf part n xs ])
           ≡ length {A = List A} (elim z [ true ↦ (x ∷ before part n xs) ∷ parts part n xs | false ↦ parts part n xs ])
       go true e = ap suc e
       go false e = e

@@ -2,7 +2,7 @@
 --   is n x         x plays the part n
 --   before n xs    the elements before the first of the part n
 --   parts n xs     each element of the part n with the elements up to the next of that part
---   all n xs       the elements of the part n
+--   allOf n xs     the elements of the part n
 --   lastOr d xs    the last element; d where there is none
 --   the n xs       the one element of the part n, or none
 use Prim.Native.Nat.{ℕ}
@@ -28,10 +28,10 @@ module _ {A : Type 0} (part : A → ℕ) where
   parts n [] = []
   parts n (x ∷ xs) = elim (is n x) [ true ↦ (x ∷ before n xs) ∷ parts n xs | false ↦ parts n xs ]
 
-  abbrev pub all : ℕ → List A → List A
-  all n [] = []
-  all n (x ∷ xs) = elim (is n x) [ true ↦ x ∷ all n xs | false ↦ all n xs ]
+  abbrev pub allOf : ℕ → List A → List A
+  allOf n [] = []
+  allOf n (x ∷ xs) = elim (is n x) [ true ↦ x ∷ allOf n xs | false ↦ allOf n xs ]
 
   -- where there are several, the last one
   abbrev pub the : ℕ → List A → Option A
-  the n xs = lastOr none (all n xs)
+  the n xs = lastOr none (allOf n xs)

@@ -2,10 +2,10 @@
 --   textOf s e, judgedAs k x   the text of the event e in the message s; a text judged by the kind of its element
 --   told s e, tell s es        an event, and all events, with what their texts are judged
 --   worth t                    the number that a text tells; 0 where it tells none or breaks its rule
---   is, before, parts, all, lastOr, the   the elements of a part, as Sections says
+--   is, before, parts, allOf, lastOr, the   the elements of a part, as Sections says
 --   Transaction, Batch         what is said of each; transactionOf, batchOf: from the events of its part
 --   batchesOf ts               the batches of a message, in order
---   count b, sum b             a batch's number of transactions, and their cents
+--   exactCount b, exactSum b   a batch's number of transactions, and their cents
 use Prim.Native.Nat.{ℕ}
 use mathlib.Core.Bool.{Bool}
 use mathlib.Core.List.{List, map}
@@ -40,7 +40,7 @@ tell s es = map (told s) es
 
 -- no stage that looks at a text's number is reached where a text breaks its rule
 abbrev pub worth : Told → ℕ
-worth t = rules.told (t .judged)
+worth t = rules.numberTold (t .judged)
 
 -- ─── 2. Finding elements among the events ───
 
@@ -53,8 +53,8 @@ before = sections.before (λ t. t .part)
 abbrev pub parts : ℕ → List Told → List (List Told)
 parts = sections.parts (λ t. t .part)
 
-abbrev pub all : ℕ → List Told → List Told
-all = sections.all (λ t. t .part)
+abbrev pub allOf : ℕ → List Told → List Told
+allOf = sections.allOf (λ t. t .part)
 
 abbrev pub lastOr : Option Told → List Told → Option Told
 lastOr = sections.lastOr
@@ -112,8 +112,8 @@ worthOf (some t) = worth t
 abbrev pub centsOf : Transaction → ℕ
 centsOf x = worthOf (x .amount)
 
-abbrev pub count : Batch → ℕ
-count b = length (b .transactions)
+abbrev pub exactCount : Batch → ℕ
+exactCount b = length (b .transactions)
 
-abbrev pub sum : Batch → ℕ
-sum b = total centsOf (b .transactions)
+abbrev pub exactSum : Batch → ℕ
+exactSum b = total centsOf (b .transactions)

@@ -17,7 +17,7 @@ use Rattle.text.specs.declared.Judged.{Judged}
 use Rattle.text.specs.declared.Judged.the-variants.{Good, Bad}
 use Rattle.tree.specs.Parts as part
 use Rattle.message.specs.declared.Told.{Told}
-use Rattle.message.specs.Message.{Transaction, Batch, all, the, batchesOf, worth, worthOf, centsOf, count, sum}
+use Rattle.message.specs.Message.{Transaction, Batch, allOf, the, batchesOf, worth, worthOf, centsOf, exactCount, exactSum}
 
 -- ─── 1. First faults ───
 
@@ -65,7 +65,7 @@ differs (some t) n = unless (eqb (worth t) n) (t .start)
 
 -- a batch's count, then its sum
 abbrev pub batchFault : Batch → Option Fault
-batchFault b = orElse (at 6 (differs (b .declaredCount) (count b))) (at 7 (differs (b .declaredSum) (sum b)))
+batchFault b = orElse (at 6 (differs (b .declaredCount) (exactCount b))) (at 7 (differs (b .declaredSum) (exactSum b)))
 
 pub record Room : Type 0 where
   pub slips : ℕ
@@ -74,13 +74,13 @@ pub record Room : Type 0 where
 abbrev pub stages : Room → List Told → List (Option Fault)
 stages r ts =
     let bs = batchesOf ts in
-    at 3 (placeAfter mostBatches (all part.batch ts))
-    ∷ at 4 (placeAfter mostTransactions (all part.transaction ts))
+    at 3 (placeAfter mostBatches (allOf part.batch ts))
+    ∷ at 4 (placeAfter mostTransactions (allOf part.transaction ts))
     ∷ firstBroken ts  -- 5
     ∷ first (map batchFault bs)  -- 6, 7
-    ∷ at 8 (differs (the part.messageCount ts) (total count bs))
-    ∷ at 9 (differs (the part.messageSum ts) (total sum bs))
-    ∷ at 10 (unless (leb (12 * total count bs) (r .slips)) (12 * total count bs))
+    ∷ at 8 (differs (the part.messageCount ts) (total exactCount bs))
+    ∷ at 9 (differs (the part.messageSum ts) (total exactSum bs))
+    ∷ at 10 (unless (leb (12 * total exactCount bs) (r .slips)) (12 * total exactCount bs))
     ∷ at 11 (unless (leb (8 * length bs) (r .rows)) (8 * length bs))
     ∷ []
 
@@ -94,7 +94,7 @@ verdict none t = accepted t
 verdict (some f) t = refused f
 
 abbrev pub totalsOf : List Batch → Totals
-totalsOf bs = record { batches = length bs; transactions = record { 0 = total count bs }; cents = record { 0 = total sum bs } }
+totalsOf bs = record { batches = length bs; transactions = record { 0 = total exactCount bs }; cents = record { 0 = total exactSum bs } }
 
 abbrev pub verdictOf : Room → List Told → Verdict
 verdictOf r ts = verdict (first (stages r ts)) (totalsOf (batchesOf ts))
@@ -102,9 +102,9 @@ verdictOf r ts = verdict (first (stages r ts)) (totalsOf (batchesOf ts))
 -- ─── 3. The rows ───
 
 -- start and length of a text, 0 and 0 where it is missing
-abbrev pub span : Option Told → List ℕ
-span none = 0 ∷ 0 ∷ []
-span (some t) = t .start ∷ t .length ∷ []
+abbrev pub startAndLength : Option Told → List ℕ
+startAndLength none = 0 ∷ 0 ∷ []
+startAndLength (some t) = t .start ∷ t .length ∷ []
 
 -- 1 or 0 for a declaration, then what it tells or 0
 abbrev pub declared : Option Told → List ℕ
@@ -113,7 +113,7 @@ declared (some t) = 1 ∷ worth t ∷ []
 
 -- twelve numbers: batch from 1, cents, the five texts
 abbrev pub slip : ℕ → Transaction → List ℕ
-slip k x = k ∷ centsOf x ∷ (span (x .endToEnd) ++ (span (x .mandate) ++ (span (x .debtorName) ++ (span (x .debtorAccount) ++ span (x .remittance)))))
+slip k x = k ∷ centsOf x ∷ (startAndLength (x .endToEnd) ++ (startAndLength (x .mandate) ++ (startAndLength (x .debtorName) ++ (startAndLength (x .debtorAccount) ++ startAndLength (x .remittance)))))
 
 -- the slips of the batches, the first of which is batch k
 abbrev pub slipsFrom : ℕ → List Batch → List ℕ
@@ -125,12 +125,12 @@ slipsOf ts = slipsFrom 1 (batchesOf ts)
 
 -- eight numbers: transactions before it, count, cents, the two declarations, 4 × scheme + sequence
 abbrev pub row : ℕ → Batch → List ℕ
-row m b = m ∷ count b ∷ sum b ∷ (declared (b .declaredCount) ++ (declared (b .declaredSum) ++ ((4 * worthOf (b .scheme) + worthOf (b .sequence)) ∷ [])))
+row m b = m ∷ exactCount b ∷ exactSum b ∷ (declared (b .declaredCount) ++ (declared (b .declaredSum) ++ ((4 * worthOf (b .scheme) + worthOf (b .sequence)) ∷ [])))
 
 -- the rows of the batches, with m transactions before them
 abbrev pub rowsFrom : ℕ → List Batch → List ℕ
 rowsFrom m [] = []
-rowsFrom m (b ∷ bs) = row m b ++ rowsFrom (m + count b) bs
+rowsFrom m (b ∷ bs) = row m b ++ rowsFrom (m + exactCount b) bs
 
 abbrev pub rowsOf : List Told → List ℕ
 rowsOf ts = rowsFrom 0 (batchesOf ts)

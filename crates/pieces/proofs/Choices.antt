@@ -10,18 +10,18 @@ use mathlib.Core.Path.{_≡_, refl, ap, sym, _∙_}
 use lib.ListN.{length, take, drop, getD, length-drop, drop-of-length-le}
 use lib.Seq.{getD-take, getD-drop}
 use Rattle.laws.specs.Bytes.{Bytes, ascii}
-use Rattle.frames.specs.Frames.{collection, leadOf}
+use Rattle.frames.specs.Frames.{collectionFrame, leadOf}
 use Rattle.daylist.proofs.Leads.{take-there, drop-there}
 use Rattle.put.specs.Wrote.{Wrote}
 use Rattle.written.specs.Written.{schemeWord, sequenceWord}
 use Rattle.written.specs.Pieces.{bankBytes, remittanceBytes}
-use Rattle.pieces.specs.Texts.{wordAt}
+use Rattle.pieces.specs.Texts.{nthWord}
 
 -- a byte of the lead, and those of the cents
-pub lead-at : (s : Bytes) (i : ℕ) → i < 7 → getD (leadOf collection s) i 0 ≡ getD s (1 + i) 0
+pub lead-at : (s : Bytes) (i : ℕ) → i < 7 → getD (leadOf collectionFrame s) i 0 ≡ getD s (1 + i) 0
 lead-at s i h = getD-take 7 (drop 1 s) i 0 h ∙ getD-drop 1 s i 0
 
-pub lead-cents : (s : Bytes) → take 5 (drop 3 s) ≡ drop 2 (leadOf collection s)
+pub lead-cents : (s : Bytes) → take 5 (drop 3 s) ≡ drop 2 (leadOf collectionFrame s)
 lead-cents [] = refl
 lead-cents (a ∷ []) = refl
 lead-cents (a ∷ b ∷ []) = refl
@@ -32,15 +32,15 @@ lead-cents (a ∷ b ∷ c ∷ s) = refl
 pub word-there : (ws : Bytes) (i a b : ℕ) → a ≡ min i (length ws) → b ≡ min (i + 4) (length ws) → take (b - a) (drop a ws) ≡ take 4 (drop i ws)
 word-there ws i a b p q = sym (ap (take 4) (drop-there i a ws p) ∙ take-there 4 (b - a) (drop a ws) (omega (arith, length-drop a ws)))
 
-no-word : (ws : Bytes) (n : ℕ) → length ws ≤ n * 4 → wordAt ws n ≡ []
+no-word : (ws : Bytes) (n : ℕ) → length ws ≤ n * 4 → nthWord ws n ≡ []
 no-word ws n h = rw (drop-of-length-le ws h)
 
-pub scheme-word : (n : ℕ) → wordAt (ascii "COREB2B") n ≡ schemeWord n
+pub scheme-word : (n : ℕ) → nthWord (ascii "COREB2B") n ≡ schemeWord n
 scheme-word zero = refl
 scheme-word (suc zero) = refl
 scheme-word (suc (suc n)) = no-word (ascii "COREB2B") (suc (suc n)) (omega arith)
 
-pub sequence-word : (n : ℕ) → wordAt (ascii "FRSTRCUROOFFFNAL") n ≡ sequenceWord n
+pub sequence-word : (n : ℕ) → nthWord (ascii "FRSTRCUROOFFFNAL") n ≡ sequenceWord n
 sequence-word zero = refl
 sequence-word (suc zero) = refl
 sequence-word (suc (suc zero)) = refl

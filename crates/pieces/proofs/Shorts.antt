@@ -18,10 +18,10 @@ use Rattle.frames.specs.Hex.{unhex}
 use Rattle.frames.specs.Frames.{frameOf, framed, texts, textsOf}
 use Rattle.frames.specs.Parts.{partOf}
 use Rattle.frames.specs.declared.Frame.{Frame}
-use Rattle.frames.specs.declared.Part.{Part}
+use Rattle.frames.specs.declared.TextPart.{TextPart}
 use Rattle.frames.proofs.Digits.{value-under}
 use Rattle.frames.proofs.Parts.{part-within, part-text}
-use Rattle.pieces.specs.Texts.{textAt, Has}
+use Rattle.pieces.specs.Texts.{lineText, Has}
 
 pub byte-small : (s : Bytes) → All (λ b. b ≤ 255) (unhex s)
 byte-small [] = tt
@@ -38,7 +38,7 @@ each-short [] i h = omega arith
 each-short (t ∷ ts) zero h = h .0
 each-short (t ∷ ts) (suc i) h = each-short ts i (h .1)
 
-pub text-short : (n i : ℕ) (line : Bytes) → length (textAt n i (unhex line)) ≤ 255
+pub text-short : (n i : ℕ) (line : Bytes) → length (lineText n i (unhex line)) ≤ 255
 text-short n i line =
     each-short (textsOf (frameOf n) (unhex line)) i
     (texts-short ((frameOf n) .texts) (drop (1 + (frameOf n) .lead) (unhex line)) (All-drop (λ b. b ≤ 255) (1 + (frameOf n) .lead) (unhex line) (byte-small line)))
@@ -48,23 +48,23 @@ text-short n i line =
 pub text-has : {f : Frame} (n i : ℕ) (s : Bytes) → f ≡ frameOf n → Has n i s → (framed f s ≡ true) × (i < f .texts)
 text-has n i s e h = rw e (h .is, h .there)
 
-module _ (n i : ℕ) (line : Bytes) (p : Part) (f : Frame) (e : f ≡ frameOf n) (q : p ≡ partOf f i (unhex line)) where
+module _ (n i : ℕ) (line : Bytes) (p : TextPart) (f : Frame) (e : f ≡ frameOf n) (q : p ≡ partOf f i (unhex line)) where
   pub text-told : p ≡ partOf (frameOf n) i (unhex line)
   text-told = rw (← e) q
 
   pub text-within : Has n i (unhex line) → p .start + p .length ≤ length line
   text-within h = rw text-told (part-within (frameOf n) line (h .is) i (h .there))
 
-  pub text-is : Has n i (unhex line) → unhex (take (p .start + p .length - p .start) (drop (p .start) line)) ≡ textAt n i (unhex line)
+  pub text-is : Has n i (unhex line) → unhex (take (p .start + p .length - p .start) (drop (p .start) line)) ≡ lineText n i (unhex line)
   text-is h =
       let a : p .start + p .length - p .start ≡ p .length = omega arith in
       rw (a, text-told) (part-text (frameOf n) line (h .is) i (h .there))
 
-  size : p .length ≡ length (textAt n i (unhex line)) * 2
-  size = ap (λ (x : Part). x .length) text-told
+  size : p .length ≡ length (lineText n i (unhex line)) * 2
+  size = ap (λ (x : TextPart). x .length) text-told
 
-  pub text-none : p .length ≡ 0 → length (textAt n i (unhex line)) ≡ 0
+  pub text-none : p .length ≡ 0 → length (lineText n i (unhex line)) ≡ 0
   text-none z = omega (arith, size)
 
-  pub text-some : (p .length ≡ 0 → ⊥) → 0 < length (textAt n i (unhex line))
+  pub text-some : (p .length ≡ 0 → ⊥) → 0 < length (lineText n i (unhex line))
   text-some z = omega (arith, size)

@@ -1,7 +1,7 @@
 -- WHAT THE WRITERS OF PIECES SPEAK OF. Not to be believed: each serves only inside a message, whose bytes are those of `written`.
---   textAt n i s     text i of line n, of which s are the bytes
+--   lineText n i s   text i of line n, of which s are the bytes
 --   Has n i s        the bytes s are a frame of line n, which has a text i
---   wordAt ws n      word n of ws, where each has four bytes but the last, which may have fewer
+--   nthWord ws n     word n of ws, where each has four bytes but the last, which may have fewer
 use Prim.Native.Nat.{ℕ, _*_, _<_}
 use mathlib.Core.Bool.{true}
 use mathlib.Core.List.{[]}
@@ -10,12 +10,12 @@ use lib.ListN.{take, drop, getD}
 use Rattle.laws.specs.Bytes.{Bytes}
 use Rattle.frames.specs.Frames.{frameOf, framed, textsOf}
 
-abbrev pub textAt : ℕ → ℕ → Bytes → Bytes
-textAt n i s = getD (textsOf (frameOf n) s) i []
+abbrev pub lineText : ℕ → ℕ → Bytes → Bytes
+lineText n i s = getD (textsOf (frameOf n) s) i []
 
 pub record Has (n i : ℕ) (s : Bytes) : Type 0 where
   pub is : framed (frameOf n) s ≡ true
   pub there : i < (frameOf n) .texts
 
-abbrev pub wordAt : Bytes → ℕ → Bytes
-wordAt ws n = take 4 (drop (n * 4) ws)
+abbrev pub nthWord : Bytes → ℕ → Bytes
+nthWord ws n = take 4 (drop (n * 4) ws)

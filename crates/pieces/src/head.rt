@@ -3,10 +3,10 @@ ghost use mathlib.Core.Path.{_≡_};
 ghost use mathlib.Core.Bool.{true};
 ghost use Prim.Native.Nat.{_+_, _≤_, _<_, _^_};
 ghost use Rattle.frames.specs.Hex.{unhex};
-ghost use Rattle.frames.specs.Frames.{framed, creditor, collection};
+ghost use Rattle.frames.specs.Frames.{framed, creditorFrame, collectionFrame};
 ghost use Rattle.put.specs.Wrote.{Wrote};
-ghost use Rattle.listed.specs.Listed.{collectionOf, creditorOf};
-ghost use Rattle.pieces.specs.Texts.{wordAt};
+ghost use Rattle.collections.specs.Listed.{collectionOf, creditorOf};
+ghost use Rattle.pieces.specs.Texts.{nthWord};
 ghost use Rattle.written.specs.Pieces.{sumsBytes, idBytes, totalsBytes, termsBytes, creditorBytes, idsBytes, openingBytes};
 use crate::texts;
 use profile::ControlSum;
@@ -64,7 +64,7 @@ pub fn put_totals(
 // there are not so many.
 fn put_word(out: &mut [u8], at: usize, words: &[u8], n: u8) -> usize
     requires { ⌜ at + 4 < 2 ^ 32 ⌝ }
-    ensures { λ r. ⌜ Wrote (now (out .entry)) (now (out .exit)) at r (wordAt (now (words .entry)) n) ⌝ }
+    ensures { λ r. ⌜ Wrote (now (out .entry)) (now (out .exit)) at r (nthWord (now (words .entry)) n) ⌝ }
     ensures { λ r. ⌜ r ≤ at + 4 ⌝ }
 {
     let first = n as usize * 4;
@@ -75,7 +75,7 @@ fn put_word(out: &mut [u8], at: usize, words: &[u8], n: u8) -> usize
 
 // The terms of a collection, from its line.
 pub fn put_terms(out: &mut [u8], at: usize, line: &[u8]) -> usize
-    requires { ⌜ framed collection (unhex (now line)) ≡ true ⌝ }
+    requires { ⌜ framed collectionFrame (unhex (now line)) ≡ true ⌝ }
     requires { ⌜ at + 400 < 2 ^ 32 ⌝ }
     ensures { λ r. ⌜ Wrote (now (out .entry)) (now (out .exit)) at r (termsBytes (collectionOf (unhex (now (line .entry))) .terms)) ⌝ }
     ensures { λ r. ⌜ r ≤ at + 400 ⌝ }
@@ -101,7 +101,7 @@ pub fn put_terms(out: &mut [u8], at: usize, line: &[u8]) -> usize
 
 // The creditor, from its line.
 pub fn put_creditor(out: &mut [u8], at: usize, line: &[u8]) -> usize
-    requires { ⌜ framed creditor (unhex (now line)) ≡ true ⌝ }
+    requires { ⌜ framed creditorFrame (unhex (now line)) ≡ true ⌝ }
     requires { ⌜ at + 1300 < 2 ^ 32 ⌝ }
     ensures { λ r. ⌜ Wrote (now (out .entry)) (now (out .exit)) at r (creditorBytes (creditorOf (unhex (now (line .entry))))) ⌝ }
     ensures { λ r. ⌜ r ≤ at + 1300 ⌝ }
@@ -129,7 +129,7 @@ pub fn put_creditor(out: &mut [u8], at: usize, line: &[u8]) -> usize
 
 // The declaration, and the message's id and time.
 fn put_ids(out: &mut [u8], at: usize, line: &[u8]) -> usize
-    requires { ⌜ framed creditor (unhex (now line)) ≡ true ⌝ }
+    requires { ⌜ framed creditorFrame (unhex (now line)) ≡ true ⌝ }
     requires { ⌜ at + 800 < 2 ^ 32 ⌝ }
     ensures { λ r. ⌜ Wrote (now (out .entry)) (now (out .exit)) at r (idsBytes (creditorOf (unhex (now (line .entry))))) ⌝ }
     ensures { λ r. ⌜ r ≤ at + 800 ⌝ }
@@ -154,7 +154,7 @@ pub fn put_opening(
     count: NumberOfTransactions,
     cents: ControlSum,
 ) -> usize
-    requires { ⌜ framed creditor (unhex (now line)) ≡ true ⌝ }
+    requires { ⌜ framed creditorFrame (unhex (now line)) ≡ true ⌝ }
     requires { ⌜ at + 1300 < 2 ^ 32 ⌝ }
     ensures { λ r. ⌜ Wrote (now (out .entry)) (now (out .exit)) at r (openingBytes (creditorOf (unhex (now (line .entry)))) (count .0) (cents .0)) ⌝ }
     ensures { λ r. ⌜ r ≤ at + 1300 ⌝ }

@@ -8,7 +8,7 @@ ghost use Rattle.frames.specs.Frames.{frameOf};
 ghost use Rattle.frames.specs.Parts.{partOf};
 ghost use Rattle.put.specs.Wrote.{Wrote};
 ghost use Rattle.written.specs.Pieces.{bankBytes};
-ghost use Rattle.pieces.specs.Texts.{Has, textAt};
+ghost use Rattle.pieces.specs.Texts.{Has, lineText};
 
 // A text that stands at a part of the line.
 pub fn put_part(
@@ -17,12 +17,12 @@ pub fn put_part(
     line: &[u8],
     number: usize,
     i: usize,
-    part: frames::Part,
+    part: frames::TextPart,
 ) -> usize
     requires { ⌜ Has number i (unhex (now line)) ⌝ }
     requires { ⌜ part ≡ partOf (frameOf number) i (unhex (now line)) ⌝ }
     requires { ⌜ at + 255 < 2 ^ 32 ⌝ }
-    ensures { λ r. ⌜ Wrote (now (out .entry)) (now (out .exit)) at r (textAt number i (unhex (now (line .entry)))) ⌝ }
+    ensures { λ r. ⌜ Wrote (now (out .entry)) (now (out .exit)) at r (lineText number i (unhex (now (line .entry)))) ⌝ }
     ensures { λ r. ⌜ r ≤ at + 255 ⌝ }
 {
     let start = part.start;
@@ -34,7 +34,7 @@ pub fn put_part(
 pub fn put_text(out: &mut [u8], at: usize, line: &[u8], number: usize, i: usize) -> usize
     requires { ⌜ Has number i (unhex (now line)) ⌝ }
     requires { ⌜ at + 255 < 2 ^ 32 ⌝ }
-    ensures { λ r. ⌜ Wrote (now (out .entry)) (now (out .exit)) at r (textAt number i (unhex (now (line .entry)))) ⌝ }
+    ensures { λ r. ⌜ Wrote (now (out .entry)) (now (out .exit)) at r (lineText number i (unhex (now (line .entry)))) ⌝ }
     ensures { λ r. ⌜ r ≤ at + 255 ⌝ }
 {
     let part = frames::text_part(line, frames::frame_of(number), i);
@@ -52,7 +52,7 @@ pub fn put_behind(
 ) -> usize
     requires { ⌜ Has number i (unhex (now line)) ⌝ }
     requires { ⌜ at + length (now lead) + 255 < 2 ^ 32 ⌝ }
-    ensures { λ r. ⌜ Wrote (now (out .entry)) (now (out .exit)) at r (now (lead .entry) ++ textAt number i (unhex (now (line .entry)))) ⌝ }
+    ensures { λ r. ⌜ Wrote (now (out .entry)) (now (out .exit)) at r (now (lead .entry) ++ lineText number i (unhex (now (line .entry)))) ⌝ }
     ensures { λ r. ⌜ r ≤ at + length (now (lead .entry)) + 255 ⌝ }
 {
     let next = put::put(out, at, lead);
@@ -63,7 +63,7 @@ pub fn put_behind(
 pub fn put_bank(out: &mut [u8], at: usize, line: &[u8], number: usize, i: usize) -> usize
     requires { ⌜ Has number i (unhex (now line)) ⌝ }
     requires { ⌜ at + 300 < 2 ^ 32 ⌝ }
-    ensures { λ r. ⌜ Wrote (now (out .entry)) (now (out .exit)) at r (bankBytes (textAt number i (unhex (now (line .entry))))) ⌝ }
+    ensures { λ r. ⌜ Wrote (now (out .entry)) (now (out .exit)) at r (bankBytes (lineText number i (unhex (now (line .entry))))) ⌝ }
     ensures { λ r. ⌜ r ≤ at + 300 ⌝ }
 {
     let part = frames::text_part(line, frames::frame_of(number), i);

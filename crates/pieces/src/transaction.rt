@@ -3,16 +3,16 @@ ghost use mathlib.Core.Path.{_≡_};
 ghost use mathlib.Core.Bool.{true};
 ghost use Prim.Native.Nat.{_+_, _≤_, _<_, _^_};
 ghost use Rattle.frames.specs.Hex.{unhex};
-ghost use Rattle.frames.specs.Frames.{framed, collection};
+ghost use Rattle.frames.specs.Frames.{framed, collectionFrame};
 ghost use Rattle.put.specs.Wrote.{Wrote};
-ghost use Rattle.listed.specs.Listed.{collectionOf};
+ghost use Rattle.collections.specs.Listed.{collectionOf};
 ghost use Rattle.written.specs.Pieces.{remittanceBytes, paymentBytes, debtorBytes, transactionBytes};
 use crate::texts;
 use profile::ControlSum;
 
 // RmtInf, or nothing where the text is empty.
 fn put_remittance(out: &mut [u8], at: usize, line: &[u8]) -> usize
-    requires { ⌜ framed collection (unhex (now line)) ≡ true ⌝ }
+    requires { ⌜ framed collectionFrame (unhex (now line)) ≡ true ⌝ }
     requires { ⌜ at + 300 < 2 ^ 32 ⌝ }
     ensures { λ r. ⌜ Wrote (now (out .entry)) (now (out .exit)) at r (remittanceBytes (collectionOf (unhex (now (line .entry))) .remittance)) ⌝ }
     ensures { λ r. ⌜ r ≤ at + 300 ⌝ }
@@ -35,7 +35,7 @@ pub fn cents_of(line: &[u8]) -> ControlSum
 
 // Up to the debtor's bank.
 fn put_payment(out: &mut [u8], at: usize, line: &[u8]) -> usize
-    requires { ⌜ framed collection (unhex (now line)) ≡ true ⌝ }
+    requires { ⌜ framed collectionFrame (unhex (now line)) ≡ true ⌝ }
     requires { ⌜ at + 1000 < 2 ^ 32 ⌝ }
     ensures { λ r. ⌜ Wrote (now (out .entry)) (now (out .exit)) at r (paymentBytes (collectionOf (unhex (now (line .entry))))) ⌝ }
     ensures { λ r. ⌜ r ≤ at + 1000 ⌝ }
@@ -61,7 +61,7 @@ fn put_payment(out: &mut [u8], at: usize, line: &[u8]) -> usize
 
 // From the debtor's bank on.
 fn put_debtor(out: &mut [u8], at: usize, line: &[u8]) -> usize
-    requires { ⌜ framed collection (unhex (now line)) ≡ true ⌝ }
+    requires { ⌜ framed collectionFrame (unhex (now line)) ≡ true ⌝ }
     requires { ⌜ at + 1300 < 2 ^ 32 ⌝ }
     ensures { λ r. ⌜ Wrote (now (out .entry)) (now (out .exit)) at r (debtorBytes (collectionOf (unhex (now (line .entry))))) ⌝ }
     ensures { λ r. ⌜ r ≤ at + 1300 ⌝ }
@@ -76,7 +76,7 @@ fn put_debtor(out: &mut [u8], at: usize, line: &[u8]) -> usize
 
 // The transaction of a collection.
 pub fn put_transaction(out: &mut [u8], at: usize, line: &[u8]) -> usize
-    requires { ⌜ framed collection (unhex (now line)) ≡ true ⌝ }
+    requires { ⌜ framed collectionFrame (unhex (now line)) ≡ true ⌝ }
     requires { ⌜ at + 2300 < 2 ^ 32 ⌝ }
     ensures { λ r. ⌜ Wrote (now (out .entry)) (now (out .exit)) at r (transactionBytes (collectionOf (unhex (now (line .entry))))) ⌝ }
     ensures { λ r. ⌜ r ≤ at + 2300 ⌝ }

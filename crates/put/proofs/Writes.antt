@@ -15,7 +15,7 @@ use lib.ListN.{length, take, drop, set, length-append, length-set}
 use lib.Seq.{set-split, drop-at, length-take-le}
 use Rattle.laws.specs.Bytes.{Bytes}
 use Rattle.laws.proofs.Puts.{put-nil, put-append, put-one, put-back, length-put}
-use Rattle.put.specs.Numerals.{digit, decimalOf, decimal, euros}
+use Rattle.put.specs.Numerals.{lastDigit, decimalOf, decimal, euros}
 use Rattle.put.specs.Wrote.{Wrote}
 
 -- ─── what a writer promises ───
@@ -46,12 +46,12 @@ wrote-part out ys at r bs e h same =
 
 -- ─── numbers ───
 
-pub decimal-last : (most n : ℕ) → 0 < most → n < 10 → decimalOf most n ≡ digit n ∷ []
+pub decimal-last : (most n : ℕ) → 0 < most → n < 10 → decimalOf most n ≡ lastDigit n ∷ []
 unfolding decimalOf
 decimal-last zero n h l = absurd (omega arith)
 decimal-last (suc most) n h l = rw (lt-ltb n 10 l, decimalOf)
 
-pub decimal-more : (most n : ℕ) → 0 < most → 10 ≤ n → decimalOf most n ≡ decimalOf (most - 1) (n / 10) ++ (digit n ∷ [])
+pub decimal-more : (most n : ℕ) → 0 < most → 10 ≤ n → decimalOf most n ≡ decimalOf (most - 1) (n / 10) ++ (lastDigit n ∷ [])
 unfolding decimalOf
 decimal-more zero n h l = absurd (omega arith)
 decimal-more (suc most) n h l = let p : suc most - 1 ≡ most = omega arith in rw (p, le-ltb n 10 l, decimalOf)
@@ -63,7 +63,7 @@ store-front s i v h l =
     rw (set-split s (i - 1) v (omega arith), drop-at (take (i - 1) s) _ (i - 1) (length-take-le (i - 1) s (omega arith)), e)
 
 by-size : (most n : ℕ) (b : Bool) → length (decimalOf most (n / 10)) ≤ most
-    → length {A = ℕ} (elim b [ true ↦ digit n ∷ [] | false ↦ decimalOf most (n / 10) ++ (digit n ∷ []) ]) ≤ suc most
+    → length {A = ℕ} (elim b [ true ↦ lastDigit n ∷ [] | false ↦ decimalOf most (n / 10) ++ (lastDigit n ∷ []) ]) ≤ suc most
 by-size most n true h = omega arith
 by-size most n false h = simp length-append (omega arith)
 

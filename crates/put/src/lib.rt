@@ -5,7 +5,7 @@ ghost use mathlib.Core.List.{[], _∷_};
 ghost use Prim.Native.Nat.{_+_, _≤_, _<_, _^_};
 ghost use lib.ListN.{length, drop};
 ghost use Rattle.frames.specs.Hex.{unhex};
-ghost use Rattle.put.specs.Numerals.{digit, decimal, euros, batchId};
+ghost use Rattle.put.specs.Numerals.{lastDigit, decimal, euros, batchId};
 ghost use Rattle.put.specs.Wrote.{Wrote};
 use profile::ControlSum;
 use profile::NumberOfTransactions;
@@ -66,7 +66,7 @@ pub fn put_hex(out: &mut [u8], at: usize, digits: &[u8]) -> usize
 
 // The last digit of a number.
 fn digit(n: u64) -> u8
-    ensures { λ r. ⌜ r ≡ digit n ⌝ }
+    ensures { λ r. ⌜ r ≡ lastDigit n ⌝ }
 {
     48 + (n % 10) as u8
 }

@@ -20,28 +20,28 @@ use Rattle.tree.specs.declared.Event.{Event}
 use Rattle.message.specs.Message.{textOf, told}
 use Rattle.heard.specs.Bounds.{Sane, Fit}
 
-code-le : (n : ℕ) (w : String) (ws : List String) (x : Bytes) → rules.told (codeFrom n (w ∷ ws) x) ≤ n + length ws
+code-le : (n : ℕ) (w : String) (ws : List String) (x : Bytes) → rules.numberTold (codeFrom n (w ∷ ws) x) ≤ n + length ws
 code-le n w [] x = go (same x (ascii w))
   where
-    go : (z : Bool) → rules.told (elim z [ true ↦ Good n | false ↦ codeFrom (suc n) [] x ]) ≤ n + 0
+    go : (z : Bool) → rules.numberTold (elim z [ true ↦ Good n | false ↦ codeFrom (suc n) [] x ]) ≤ n + 0
     go true = omega arith
     go false = omega arith
 code-le n w (v ∷ ws) x = go (same x (ascii w)) (code-le (suc n) v ws x)
   where
-    go : (z : Bool) → rules.told (codeFrom (suc n) (v ∷ ws) x) ≤ suc n + length ws → rules.told (elim z [ true ↦ Good n | false ↦ codeFrom (suc n) (v ∷ ws) x ]) ≤ n + suc (length ws)
+    go : (z : Bool) → rules.numberTold (codeFrom (suc n) (v ∷ ws) x) ≤ suc n + length ws → rules.numberTold (elim z [ true ↦ Good n | false ↦ codeFrom (suc n) (v ∷ ws) x ]) ≤ n + suc (length ws)
     go true h = omega arith
     go false h = omega arith
 
-pub scheme-le : (x : Bytes) → rules.told (rules.scheme x) ≤ 1
+pub scheme-le : (x : Bytes) → rules.numberTold (rules.scheme x) ≤ 1
 scheme-le x = code-le 0 "CORE" ("B2B" ∷ []) x
 
-pub sequence-le : (x : Bytes) → rules.told (rules.sequence x) ≤ 3
+pub sequence-le : (x : Bytes) → rules.numberTold (rules.sequence x) ≤ 3
 sequence-le x = code-le 0 "FRST" ("RCUR" ∷ "OOFF" ∷ "FNAL" ∷ []) x
 
-pub amount-le : (x : Bytes) → rules.told (rules.amount x) ≤ mostCents
-amount-le x = go (rules.euros 9 x) (leb 1 (rules.cents x)) (leb (rules.cents x) mostCents) refl
+pub amount-le : (x : Bytes) → rules.numberTold (rules.amount x) ≤ mostCents
+amount-le x = go (rules.inEuros 9 x) (leb 1 (rules.cents x)) (leb (rules.cents x) mostCents) refl
   where
-    go : (a b c : Bool) → leb (rules.cents x) mostCents ≡ c → rules.told (must (a && (b && c)) Number (Good (rules.cents x))) ≤ mostCents
+    go : (a b c : Bool) → leb (rules.cents x) mostCents ≡ c → rules.numberTold (must (a && (b && c)) Number (Good (rules.cents x))) ≤ mostCents
     go true true true e = leb-true (rules.cents x) mostCents e
     go true true false e = omega arith
     go true false c e = omega arith

@@ -1,4 +1,4 @@
--- WHAT READING A MESSAGE PROMISES. Not to be believed: the promise of `check` is checked/specs/Check.
+-- WHAT READING A MESSAGE PROMISES. Not to be believed: the promise of `check` is promise/specs/Check.
 --   ReadRight root s a r ns sl rw   with a heard before, the answer r, and what is then in the lent row and tables, are right of the message s with this root
 --   Bounded n r ns                  where the message was read, the numbers are small at the place n
 --   Rooted                          the same of what follows the declaration, in terms of the reader

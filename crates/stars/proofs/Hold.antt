@@ -8,7 +8,7 @@ use Rattle.text.specs.Rules.{good}
 use Rattle.tree.specs.Reader.{read}
 use Rattle.tree.specs.Pain008.{Document, declaration}
 use Rattle.tree.proofs.Pain008.{stuckAt, not-of-form}
-use Rattle.stars.specs.Stars.{Case, Case.two, Case.obeys, Case.breaks, Case.test, Holds, cases, Stars}
+use Rattle.stars.specs.Stars.{Case, Case.two, Case.obeys, Case.breaks, Case.test, Claim, cases, Stars}
 
 passes : Case → Bool
 passes (two s n) = stuckAt n (read declaration Document (ascii s))
@@ -16,7 +16,7 @@ passes (obeys r s) = good (r (ascii s))
 passes (breaks r s) = not (good (r (ascii s)))
 passes (test b) = b
 
-holds : (c : Case) → T (passes c) → Holds c
+holds : (c : Case) → T (passes c) → Claim c
 unfolding passes
 holds (two s n) t = not-of-form (ascii s) n t
 holds (obeys r s) t = t
@@ -25,4 +25,4 @@ holds (test b) t = t
 
 pub stars : Stars
 unfolding passes
-stars = of-each (λ c. passes (c .1)) (λ c. Holds (c .1)) (λ c t. holds (c .1) t) cases tt
+stars = of-each (λ c. passes (c .1)) (λ c. Claim (c .1)) (λ c t. holds (c .1) t) cases tt

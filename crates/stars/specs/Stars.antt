@@ -1,6 +1,6 @@
 -- THE CASES MARKED ★ in document 01, as one list and one claim about the definitions. That it holds is proofs/Hold.
 --   Case       a message that is refused with 2 at a place; a text that obeys a rule, or breaks it; a test
---   Holds c    what the case c claims
+--   Claim c    what the case c claims
 --   cases      ★1 TO ★12, each under its number
 --   Stars      THE CLAIM: each case holds
 use Prim.Native.Nat.{ℕ}
@@ -17,7 +17,7 @@ use Rattle.text.specs.declared.Judged.the-variants.{Good, Bad}
 use Rattle.text.specs.Rules.{good, leaves, iban, amount, sum, date, identifier, bic}
 use Rattle.tree.specs.Form.{NotOfForm}
 use Rattle.tree.specs.Pain008.{Document, declaration}
-use Rattle.daylist.specs.Lead.{cents}
+use Rattle.daylist.specs.Lead.{leadCents}
 use Rattle.bundle.specs.Bundle.{bundle, number}
 
 pub data Case : Type 0 where
@@ -26,11 +26,11 @@ pub data Case : Type 0 where
   breaks : (Bytes → Judged) → String → Case
   test : Bool → Case
 
-abbrev pub Holds : Case → Type 0
-Holds (two s n) = NotOfForm declaration Document (ascii s) n
-Holds (obeys r s) = T (good (r (ascii s)))
-Holds (breaks r s) = T (not (good (r (ascii s))))
-Holds (test b) = T b
+abbrev pub Claim : Case → Type 0
+Claim (two s n) = NotOfForm declaration Document (ascii s) n
+Claim (obeys r s) = T (good (r (ascii s)))
+Claim (breaks r s) = T (not (good (r (ascii s))))
+Claim (test b) = T b
 
 -- ─── what the tests of ★11 and ★12 compare ───
 
@@ -74,10 +74,10 @@ cases =
     ∷ (9, breaks identifier "/A")
     ∷ (10, obeys bic "BANKGB2L")
     ∷ (11, test (alike (itemsOf 2 (1 ∷ 1 ∷ 2 ∷ 1 ∷ 2 ∷ 1 ∷ 1 ∷ [])) ((1 ∷ 2 ∷ []) ∷ (4 ∷ 6 ∷ []) ∷ (7 ∷ []) ∷ (3 ∷ 5 ∷ []) ∷ [])))
-    ∷ (12, test (good (cents (0x17 ∷ 0x48 ∷ 0x76 ∷ 0xe7 ∷ 0xff ∷ []))))
-    ∷ (12, test (eqb (refusal (cents (0x17 ∷ 0x48 ∷ 0x76 ∷ 0xe8 ∷ 0x00 ∷ []))) 26))
+    ∷ (12, test (good (leadCents (0x17 ∷ 0x48 ∷ 0x76 ∷ 0xe7 ∷ 0xff ∷ []))))
+    ∷ (12, test (eqb (refusal (leadCents (0x17 ∷ 0x48 ∷ 0x76 ∷ 0xe8 ∷ 0x00 ∷ []))) 26))
     ∷ []
 
 -- THE CLAIM
 abbrev pub Stars : Type 0
-Stars = All (λ c. Holds (c .1)) cases
+Stars = All (λ c. Claim (c .1)) cases

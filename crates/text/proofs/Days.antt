@@ -23,7 +23,7 @@ use Rattle.marks.proofs.Numbers.{value-under}
 use Rattle.profile.specs.declared.Flaw.{Flaw}
 use Rattle.profile.specs.declared.Flaw.the-variants.{Date}
 use Rattle.text.specs.declared.Judged.the-variants.{Good, Bad}
-use Rattle.text.specs.Rules.{days, part, dated, date, clock, time}
+use Rattle.text.specs.Rules.{days, valueAt, dated, date, clock, time}
 use Rattle.text.proofs.Musts.{bad-stays}
 
 -- ─── the days of a month ───
@@ -59,7 +59,7 @@ module _ (a n : ℕ) (p s : Bytes) (t : T (digitsAt a n p)) (e : fits p s ≡ tr
         ),
       )
 
-  pub part-under : part a n s < 10 ^ n
+  pub part-under : valueAt a n s < 10 ^ n
   part-under = value-under n (take n (drop a s)) (simp length-take (omega arith)) (part-there .1 .1)
 
 pub short-date : (s : Bytes) → length s < 10 → dated (take 10 s) ≡ false
@@ -68,4 +68,4 @@ short-date s h = rw (agree-differ mark (ascii "DDDD-DD-DD") (take 10 s) (λ e. o
 pub time-bad : (s : Bytes) (g : Flaw) → date (take 10 s) ≡ Bad g → Bad g ≡ time s
 time-bad s g e =
     let d = take 10 s in
-    bad-stays (dated d) (dated d && clock (drop 10 s)) Date g (part 0 4 d * 10_000 + part 5 2 d * 100 + part 8 2 d) (Good 0) e (λ f. rw f)
+    bad-stays (dated d) (dated d && clock (drop 10 s)) Date g (valueAt 0 4 d * 10_000 + valueAt 5 2 d * 100 + valueAt 8 2 d) (Good 0) e (λ f. rw f)

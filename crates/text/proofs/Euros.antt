@@ -27,7 +27,7 @@ use Rattle.profile.specs.declared.Flaw.{Flaw}
 use Rattle.profile.specs.declared.Flaw.the-variants.{Number}
 use Rattle.text.specs.declared.Judged.{Judged}
 use Rattle.text.specs.declared.Judged.the-variants.{Good, Bad}
-use Rattle.text.specs.Rules.{must, decimals, hundredths, euros, cents, amount}
+use Rattle.text.specs.Rules.{must, decimals, hundredths, inEuros, cents, amount}
 use Rattle.text.proofs.Musts.{between-under, between-over, between-in, must-test, good-is, bad-stays}
 
 -- ─── behind the whole euros ───
@@ -102,17 +102,17 @@ module _ (n : ℕ) (s : Bytes) (e : n ≡ span digit s) where
   whole-digits = rw e (T-true (all digit (take (span digit s) s)) (all-span digit s))
 
   module _ (k : ℕ) where
-    pub euros-few : n < 1 → euros k s ≡ false
+    pub euros-few : n < 1 → inEuros k s ≡ false
     euros-few h = rw (between-under 1 k (span digit s) (rw e at h))
 
-    pub euros-many : k < n → euros k s ≡ false
+    pub euros-many : k < n → inEuros k s ≡ false
     euros-many h = rw (between-over 1 k (span digit s) (rw e at h))
 
-    euros-open : 1 ≤ n → n ≤ k → euros k s ≡ decimals (drop n s)
+    euros-open : 1 ≤ n → n ≤ k → inEuros k s ≡ decimals (drop n s)
     euros-open l m = rw (e, between-in 1 k (span digit s) (rw e at l) (rw e at m))
 
-    pub euros-bad : (g : Flaw) → tail (drop n s) ≡ Bad g → 1 ≤ n → n ≤ k → Bad g ≡ must (euros k s) Number (Good (cents s))
-    euros-bad g q l m = bad-stays (decimals (drop n s)) (euros k s) Number g (hundredths (drop n s)) (Good (cents s)) q (λ f. euros-open l m ∙ f)
+    pub euros-bad : (g : Flaw) → tail (drop n s) ≡ Bad g → 1 ≤ n → n ≤ k → Bad g ≡ must (inEuros k s) Number (Good (cents s))
+    euros-bad g q l m = bad-stays (decimals (drop n s)) (inEuros k s) Number g (hundredths (drop n s)) (Good (cents s)) q (λ f. euros-open l m ∙ f)
 
   module _ (h : ℕ) (q : tail (drop n s) ≡ Good h) where
     so : decimals (drop n s) ≡ true
@@ -121,7 +121,7 @@ module _ (n : ℕ) (s : Bytes) (e : n ≡ span digit s) where
     told : h ≡ hundredths (drop n s)
     told = sym (good-is (decimals (drop n s)) Number (hundredths (drop n s)) h q)
 
-    pub euros-good : (k : ℕ) → 1 ≤ n → n ≤ k → Good (value (take n s) * 100 + h) ≡ must (euros k s) Number (Good (cents s))
+    pub euros-good : (k : ℕ) → 1 ≤ n → n ≤ k → Good (value (take n s) * 100 + h) ≡ must (inEuros k s) Number (Good (cents s))
     euros-good k l m = rw (euros-open k l m, so, told, e)
 
     pub euros-under : n ≤ 15 → value (take n s) * 100 + h < 10 ^ 17
@@ -130,18 +130,18 @@ module _ (n : ℕ) (s : Bytes) (e : n ≡ span digit s) where
 
 -- ─── an amount ───
 
-pub amount-bad : (s : Bytes) (g : Flaw) → must (euros 9 s) Number (Good (cents s)) ≡ Bad g → Bad g ≡ amount s
-amount-bad s g q = bad-stays (euros 9 s) (euros 9 s && between 1 mostCents (cents s)) Number g (cents s) (Good (cents s)) q (λ f. rw f)
+pub amount-bad : (s : Bytes) (g : Flaw) → must (inEuros 9 s) Number (Good (cents s)) ≡ Bad g → Bad g ≡ amount s
+amount-bad s g q = bad-stays (inEuros 9 s) (inEuros 9 s && between 1 mostCents (cents s)) Number g (cents s) (Good (cents s)) q (λ f. rw f)
 
-module _ (s : Bytes) (c : ℕ) (q : must (euros 9 s) Number (Good (cents s)) ≡ Good c) where
+module _ (s : Bytes) (c : ℕ) (q : must (inEuros 9 s) Number (Good (cents s)) ≡ Good c) where
   told-cents : c ≡ cents s
-  told-cents = sym (good-is (euros 9 s) Number (cents s) c q)
+  told-cents = sym (good-is (inEuros 9 s) Number (cents s) c q)
 
   pub amount-low : c < 1 → Bad Number ≡ amount s
-  amount-low h = rw (between-under 1 mostCents (cents s) (rw told-cents at h), and-false (euros 9 s))
+  amount-low h = rw (between-under 1 mostCents (cents s) (rw told-cents at h), and-false (inEuros 9 s))
 
   pub amount-high : mostCents < c → Bad Number ≡ amount s
-  amount-high h = rw (between-over 1 mostCents (cents s) (rw told-cents at h), and-false (euros 9 s))
+  amount-high h = rw (between-over 1 mostCents (cents s) (rw told-cents at h), and-false (inEuros 9 s))
 
   pub amount-good : 1 ≤ c → c ≤ mostCents → Good c ≡ amount s
-  amount-good l h = rw (must-test (euros 9 s) Number (Good (cents s)) c q, between-in 1 mostCents (cents s) (rw told-cents at l) (rw told-cents at h), told-cents)
+  amount-good l h = rw (must-test (inEuros 9 s) Number (Good (cents s)) c q, between-in 1 mostCents (cents s) (rw told-cents at l) (rw told-cents at h), told-cents)

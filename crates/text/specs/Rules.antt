@@ -33,9 +33,9 @@ good (Good n) = true
 good (Bad f) = false
 
 -- what it tells, 0 where it breaks its rule
-abbrev pub told : Judged → ℕ
-told (Good n) = n
-told (Bad f) = 0
+abbrev pub numberTold : Judged → ℕ
+numberTold (Good n) = n
+numberTold (Bad f) = 0
 
 -- ─── plain texts ───
 
@@ -66,23 +66,23 @@ abbrev pub hundredths : Bytes → ℕ
 hundredths s = (getD s 1 48 - 48) * 10 + (getD s 2 48 - 48)
 
 -- 1 to n digits, then optionally a point and 1 or 2 digits
-abbrev pub euros : ℕ → Bytes → Bool
-euros n s = between 1 n (span digit s) && decimals (drop (span digit s) s)
+abbrev pub inEuros : ℕ → Bytes → Bool
+inEuros n s = between 1 n (span digit s) && decimals (drop (span digit s) s)
 
 abbrev pub cents : Bytes → ℕ
 cents s = value (take (span digit s) s) * 100 + hundredths (drop (span digit s) s)
 
 abbrev pub sum : Bytes → Judged
-sum s = must (euros 15 s) Number (Good (cents s))
+sum s = must (inEuros 15 s) Number (Good (cents s))
 
 abbrev pub amount : Bytes → Judged
-amount s = must (euros 9 s && between 1 mostCents (cents s)) Number (Good (cents s))
+amount s = must (inEuros 9 s && between 1 mostCents (cents s)) Number (Good (cents s))
 
 -- ─── dates ───
 
 -- the number that the n bytes from the place a on spell
-abbrev pub part : ℕ → ℕ → Bytes → ℕ
-part a n s = value (take n (drop a s))
+abbrev pub valueAt : ℕ → ℕ → Bytes → ℕ
+valueAt a n s = value (take n (drop a s))
 
 abbrev pub leap : ℕ → Bool
 leap y = eqb (y % 4) 0 && (not (eqb (y % 100) 0) || eqb (y % 400) 0)
@@ -100,13 +100,13 @@ abbrev pub realDay : ℕ → ℕ → ℕ → Bool
 realDay y m d = between 1900 2099 y && (between 1 12 m && between 1 (days y m) d)
 
 abbrev pub dated : Bytes → Bool
-dated s = fits (ascii "DDDD-DD-DD") s && realDay (part 0 4 s) (part 5 2 s) (part 8 2 s)
+dated s = fits (ascii "DDDD-DD-DD") s && realDay (valueAt 0 4 s) (valueAt 5 2 s) (valueAt 8 2 s)
 
 abbrev pub date : Bytes → Judged
-date s = must (dated s) Date (Good (part 0 4 s * 10_000 + part 5 2 s * 100 + part 8 2 s))
+date s = must (dated s) Date (Good (valueAt 0 4 s * 10_000 + valueAt 5 2 s * 100 + valueAt 8 2 s))
 
 abbrev pub clock : Bytes → Bool
-clock s = fits (ascii "TDD:DD:DD") s && (between 0 23 (part 1 2 s) && (between 0 59 (part 4 2 s) && between 0 59 (part 7 2 s)))
+clock s = fits (ascii "TDD:DD:DD") s && (between 0 23 (valueAt 1 2 s) && (between 0 59 (valueAt 4 2 s) && between 0 59 (valueAt 7 2 s)))
 
 abbrev pub time : Bytes → Judged
 time s = must (dated (take 10 s) && clock (drop 10 s)) Date (Good 0)

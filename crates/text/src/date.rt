@@ -5,7 +5,7 @@ ghost use Prim.Native.Nat.{_+_, _≤_, _*_};
 ghost use lib.ListN.{length, take, drop};
 ghost use Rattle.laws.specs.Bytes.{all};
 ghost use Rattle.marks.specs.Marks.{digit};
-ghost use Rattle.text.specs.Rules.{part, leap, days, realDay, date, clock, time};
+ghost use Rattle.text.specs.Rules.{valueAt, leap, days, realDay, date, clock, time};
 use crate::Judged;
 use profile::Flaw;
 
@@ -59,7 +59,7 @@ pub fn is_real_day(year: u64, month: u64, day: u64) -> bool
 // The number that `n` digits from `at` on spell.
 fn part_of(text: &[u8], at: usize, n: usize) -> u64
     requires { ⌜ (n ≤ 15) × ((at + n ≤ length (now text)) × (all digit (take n (drop at (now text))) ≡ true)) ⌝ }
-    ensures { λ r. ⌜ r ≡ part at n (now (text .entry)) ⌝ }
+    ensures { λ r. ⌜ r ≡ valueAt at n (now (text .entry)) ⌝ }
 {
     let end = at + n;
     marks::number(&text[at..end])

@@ -1,7 +1,7 @@
 // Counts of transactions, sums and amounts of euros.
 ghost use mathlib.Core.Path.{_≡_};
 ghost use Prim.Native.Nat.{_≤_};
-ghost use Rattle.text.specs.Rules.{must, count, decimals, hundredths, euros, cents, sum, amount};
+ghost use Rattle.text.specs.Rules.{must, count, decimals, hundredths, inEuros, cents, sum, amount};
 ghost use Rattle.profile.specs.declared.Flaw.the-variants.{Number};
 ghost use Rattle.text.specs.declared.Judged.the-variants.{Good};
 use crate::Judged;
@@ -53,7 +53,7 @@ fn behind_point(text: &[u8]) -> Judged
 // 1 to `longest` digits, then optionally a point and 1 or 2 digits. It tells the cents.
 fn euro_text(text: &[u8], longest: usize) -> Judged
     requires { ⌜ longest ≤ 15 ⌝ }
-    ensures { λ r. ⌜ r ≡ must (euros longest (now (text .entry))) Number (Good (cents (now (text .entry)))) ⌝ }
+    ensures { λ r. ⌜ r ≡ must (inEuros longest (now (text .entry))) Number (Good (cents (now (text .entry)))) ⌝ }
 {
     let n = marks::digits(text);
     if n < 1 {

@@ -22,7 +22,7 @@ use Rattle.daylist.specs.Stages.{judgedList}
 use Rattle.written.specs.Written.{written}
 use Rattle.write.specs.declared.Written.{Written}
 use Rattle.write.specs.declared.Written.the-variants.{Length, Refused}
-use Rattle.write.specs.Write.{Answer, Answer.success, Answer.refused, answered, needed, fitted, bundled, after, answerFor, outputFor}
+use Rattle.write.specs.Write.{Answer, Answer.success, Answer.refused, answered, batchesNeeded, fitted, bundled, outputAfter, answerFor, outputFor}
 
 pub write-once : (r q : Written) → answered r ≡ answered q → r ≡ q
 write-once (Length n) (Length m) e = cc
@@ -56,15 +56,15 @@ front-none out (y ∷ ys) h = absurd (omega arith)
 -- ─── the whole ───
 
 -- the output is as the answer says
-both : (s : Bytes) (c : ℕ) (out : Bytes) (r : Answer) (out′ : Bytes) → r ≡ answerFor s c (length out) → out′ ≡ after r (written s c) out → Answered s c out r out′
+both : (s : Bytes) (c : ℕ) (out : Bytes) (r : Answer) (out′ : Bytes) → r ≡ answerFor s c (length out) → out′ ≡ outputAfter r (written s c) out → Answered s c out r out′
 unfolding outputFor
-both s c out r out′ a b = (a, b ∙ ap (λ (w : Answer). after w (written s c) out) a)
+both s c out r out′ a b = (a, b ∙ ap (λ (w : Answer). outputAfter w (written s c) out) a)
 
 answer-bad : (s : Bytes) (c room : ℕ) (r : ListRefusal) → judgedList s c ≡ Bad r → answerFor s c room ≡ refused (listFaultOf r)
 unfolding answerFor
 answer-bad s c room r e = rw e
 
-answer-good : (s : Bytes) (c room n : ℕ) → judgedList s c ≡ Good n → answerFor s c room ≡ bundled (needed s c) (fitted (written s c) room)
+answer-good : (s : Bytes) (c room n : ℕ) → judgedList s c ≡ Good n → answerFor s c room ≡ bundled (batchesNeeded s c) (fitted (written s c) room)
 unfolding answerFor
 answer-good s c room n e = rw e
 
@@ -73,13 +73,13 @@ module _ (s : Bytes) (c : ℕ) (out : Bytes) where
   answered-bad r e = both s c out (refused (listFaultOf r)) out (sym (answer-bad s c (length out) r e)) refl
 
   module _ (n : ℕ) (e : judgedList s c ≡ Good n) where
-    pub answered-many : (m : ℕ) → m ≡ needed s c → mostBatches < m → Answered s c out (refused (fault 27 m)) out
+    pub answered-many : (m : ℕ) → m ≡ batchesNeeded s c → mostBatches < m → Answered s c out (refused (fault 27 m)) out
     answered-many m d h =
         both s c out (refused (fault 27 m)) out
-        (rw d (sym (answer-good s c (length out) n e ∙ many (needed s c) (fitted (written s c) (length out)) (omega arith)))) refl
+        (rw d (sym (answer-good s c (length out) n e ∙ many (batchesNeeded s c) (fitted (written s c) (length out)) (omega arith)))) refl
 
-    pub answered-good : (m : Bytes) (r : Answer) (out′ : Bytes) → m ≡ written s c → needed s c ≤ mostBatches → r ≡ fitted m (length out) → out′ ≡ after r m out → Answered s c out r out′
+    pub answered-good : (m : Bytes) (r : Answer) (out′ : Bytes) → m ≡ written s c → batchesNeeded s c ≤ mostBatches → r ≡ fitted m (length out) → out′ ≡ outputAfter r m out → Answered s c out r out′
     answered-good m r out′ d h a b =
         both s c out r out′
-        (a ∙ ap (λ (w : Bytes). fitted w (length out)) d ∙ sym (answer-good s c (length out) n e ∙ few (needed s c) (fitted (written s c) (length out)) h))
-        (b ∙ ap (λ (w : Bytes). after r w out) d)
+        (a ∙ ap (λ (w : Bytes). fitted w (length out)) d ∙ sym (answer-good s c (length out) n e ∙ few (batchesNeeded s c) (fitted (written s c) (length out)) h))
+        (b ∙ ap (λ (w : Bytes). outputAfter r w out) d)

@@ -15,21 +15,21 @@ use Rattle.daylist.specs.declared.JudgedList.the-variants.{Good}
 use Rattle.daylist.specs.Stages.{judgedList}
 use Rattle.daylist.proofs.Goods.{GoodList, good-list}
 use Rattle.bundle.specs.Labels.{needOf, labelsOf}
-use Rattle.listed.specs.Listed.{listed}
-use Rattle.listed.specs.Numbers.{numbersOf}
-use Rattle.listed.proofs.Terms.{terms-decide}
-use Rattle.listed.proofs.Goods.{good-number, good-creditor, good-collections}
-use Rattle.listed.proofs.Found.{creditor-found, creditor-framed, inside, collection-found, collection-framed, collection-good, label-some}
-use Rattle.listed.proofs.Batches.{batches-by-label, need-by-number}
+use Rattle.collections.specs.Listed.{listed}
+use Rattle.collections.specs.Numbers.{numbersOf}
+use Rattle.collections.proofs.Terms.{terms-decide}
+use Rattle.collections.proofs.Goods.{good-number, good-creditor, good-collections}
+use Rattle.collections.proofs.Found.{creditor-found, creditor-framed, inside, collection-found, collection-framed, collection-good, label-some}
+use Rattle.collections.proofs.Batches.{batches-by-label, need-by-number}
 use Rattle.written.specs.Written.{noCollection, batchesFor, written}
 use Rattle.written.proofs.Bundled.{list-written, list-length}
-use Rattle.batched.specs.Ready.{Ready, Batches, batchesFrom, messageBy}
+use Rattle.batched.specs.Ready.{ListReady, BatchesReady, batchesFrom, messageBy}
 
 module _ (s : Bytes) (c n : ℕ) (e : judgedList s c ≡ Good n) (t ls : List ℕ) (u : t ≡ starts s) (v : length ls ≡ n) where
   list : GoodList s c n
   list = good-list s c n e
 
-  pub ready : Ready s t ls
+  pub ready : ListReady s t ls
   ready = record {
     creditor = creditor-framed s c n e;
     few = omega (arith, list .few);
@@ -42,7 +42,7 @@ module _ (s : Bytes) (c n : ℕ) (e : judgedList s c ≡ Good n) (t ls : List �
   }
 
   module _ (w : ls ≡ labelsOf c (numbersOf s)) (m : ℕ) (x : m ≡ needOf c (numbersOf s)) where
-    pub batches-ready : m ≤ mostBatches → Batches s t ls m
+    pub batches-ready : m ≤ mostBatches → BatchesReady s t ls m
     batches-ready h = record { ready = ready; some = λ k l. rw w (label-some s c n e k (omega arith)); most = h }
 
     by-label : batchesFor s c ≡ batchesFrom 0 m ls (listed s)

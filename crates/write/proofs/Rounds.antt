@@ -16,7 +16,7 @@ use Rattle.laws.specs.Lists.{total, count, concat}
 use Rattle.laws.proofs.Counts.{total-append, total-ext}
 use Rattle.bundle.specs.Labels.{pick, upFrom, upTo}
 use Rattle.put.specs.Wrote.{Wrote}
-use Rattle.listed.specs.Listed.{Collection, Creditor}
+use Rattle.collections.specs.Listed.{Collection, Creditor}
 use Rattle.written.specs.Written.{noCollection}
 use Rattle.written.specs.Pieces.{batchBytes, batchesBytes, openingBytes, messageBytes}
 use Rattle.batched.specs.Ready.{batchesFrom}

@@ -1,10 +1,10 @@
 -- WHAT THE WRITER ANSWERS, AND LEAVES IN THE OUTPUT. To be believed; definitions only. A refusal is told by document 01's number and place: 27 and 28 here, 21 to 26 by profile's `listFaultOf`.
 --   success n, refused f   an answer: the message is n bytes long; the refusal f
 --   answered r             what the code's answer r tells
---   needed s c             how many batches the list s needs at the ceiling c
+--   batchesNeeded s c      how many batches the list s needs at the ceiling c
 --   fitted m room          28: the message m where there is room for it
 --   bundled n a            27: at most so many batches
---   judged j a             21 to 26: the list as it is judged
+--   asJudged j a           21 to 26: the list as it is judged
 --   answerFor s c room     THE ANSWER for the list s at the ceiling c, with so much room: the first refusal of 21 to 28, or the length of the message
 --   outputFor s c out      THE OUTPUT afterwards: the message at its front and else as it was; on refusal as it was
 use Prim.Native.Nat.{ℕ}
@@ -19,7 +19,7 @@ use Rattle.daylist.specs.declared.JudgedList.{JudgedList}
 use Rattle.daylist.specs.declared.JudgedList.the-variants.{Good, Refused as Bad}
 use Rattle.daylist.specs.Stages.{judgedList}
 use Rattle.bundle.specs.Bundle.{need}
-use Rattle.listed.specs.Listed.{sameTerms, listed}
+use Rattle.collections.specs.Listed.{sameTerms, listed}
 use Rattle.written.specs.Written.{written}
 use Rattle.write.specs.declared.Written.{Written}
 use Rattle.write.specs.declared.Written.the-variants.{Length, Refused}
@@ -32,8 +32,8 @@ abbrev pub answered : Written → Answer
 answered (Length n) = success n
 answered (Refused r) = refused (listFaultOf r)
 
-abbrev pub needed : Bytes → ℕ → ℕ
-needed s c = need (λ x. x .terms) sameTerms c (listed s)
+abbrev pub batchesNeeded : Bytes → ℕ → ℕ
+batchesNeeded s c = need (λ x. x .terms) sameTerms c (listed s)
 
 -- 28
 abbrev pub fitted : Bytes → ℕ → Answer
@@ -44,17 +44,17 @@ abbrev pub bundled : ℕ → Answer → Answer
 bundled n a = elim (leb n mostBatches) [ true ↦ a | false ↦ refused (fault 27 n) ]
 
 -- 21 to 26
-abbrev pub judged : JudgedList → Answer → Answer
-judged (Good n) a = a
-judged (Bad r) a = refused (listFaultOf r)
+abbrev pub asJudged : JudgedList → Answer → Answer
+asJudged (Good n) a = a
+asJudged (Bad r) a = refused (listFaultOf r)
 
 unfoldable pub answerFor : Bytes → ℕ → ℕ → Answer
-answerFor s c room = judged (judgedList s c) (bundled (needed s c) (fitted (written s c) room))
+answerFor s c room = asJudged (judgedList s c) (bundled (batchesNeeded s c) (fitted (written s c) room))
 
 -- the message m is written where the answer is its length
-abbrev pub after : Answer → Bytes → Bytes → Bytes
-after (success n) m out = putAt out 0 m
-after (refused f) m out = out
+abbrev pub outputAfter : Answer → Bytes → Bytes → Bytes
+outputAfter (success n) m out = putAt out 0 m
+outputAfter (refused f) m out = out
 
 unfoldable pub outputFor : Bytes → ℕ → Bytes → Bytes
-outputFor s c out = after (answerFor s c (length out)) (written s c) out
+outputFor s c out = outputAfter (answerFor s c (length out)) (written s c) out

@@ -7,8 +7,8 @@ ghost use lib.ListN.{length};
 ghost use Rattle.profile.specs.Limits.{mostBytes};
 ghost use Rattle.daylist.specs.Stages.{judgedList};
 ghost use Rattle.daylist.specs.declared.JudgedList.the-variants.{Good};
-ghost use Rattle.batched.specs.Ready.{Batches, messageBy};
-ghost use Rattle.write.specs.Write.{answered, fitted, after, answerFor, outputFor};
+ghost use Rattle.batched.specs.Ready.{BatchesReady, messageBy};
+ghost use Rattle.write.specs.Write.{answered, fitted, outputAfter, answerFor, outputFor};
 use daylist::JudgedList;
 use profile::ListRefusal;
 use profile::Profile;
@@ -30,10 +30,10 @@ fn write_labelled(
     batches: u64,
     out: &mut [u8],
 ) -> Written
-    requires { ⌜ Batches (now list) (now table) (now labels) batches ⌝ }
+    requires { ⌜ BatchesReady (now list) (now table) (now labels) batches ⌝ }
     requires { ⌜ length (messageBy (now list) (now labels) batches) ≤ mostBytes ⌝ }
     ensures { λ r. ⌜ answered r ≡ fitted (messageBy (now (list .entry)) (now (labels .entry)) batches) (length (now (out .entry))) ⌝ }
-    ensures { λ r. ⌜ now (out .exit) ≡ after (answered r) (messageBy (now (list .entry)) (now (labels .entry)) batches) (now (out .entry)) ⌝ }
+    ensures { λ r. ⌜ now (out .exit) ≡ outputAfter (answered r) (messageBy (now (list .entry)) (now (labels .entry)) batches) (now (out .entry)) ⌝ }
 {
     if out.len() < Profile::BYTES {
         let length = message::put_message(&mut out[..0], list, table, labels, batches);
@@ -57,7 +57,7 @@ fn write_in(
     ensures { λ r. ⌜ answered r ≡ answerFor (now (list .entry)) ceiling (length (now (out .entry))) ⌝ }
     ensures { λ _. ⌜ now (out .exit) ≡ outputFor (now (list .entry)) ceiling (now (out .entry)) ⌝ }
 {
-    let batches = listed::label(list, ceiling, table, labels);
+    let batches = collections::label(list, ceiling, table, labels);
     if Profile::BATCHES < batches {
         return Written::Refused(ListRefusal::TooManyBatches(batches as usize));
     }

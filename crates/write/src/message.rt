@@ -7,9 +7,9 @@ ghost use Rattle.profile.specs.Limits.{mostBatches, mostCollections};
 ghost use Rattle.bundle.specs.Labels.{pick, upTo};
 ghost use Rattle.laws.specs.Lists.{total, count};
 ghost use Rattle.put.specs.Wrote.{Wrote};
-ghost use Rattle.listed.specs.Listed.{listed};
+ghost use Rattle.collections.specs.Listed.{listed};
 ghost use Rattle.written.specs.Pieces.{batchesBytes};
-ghost use Rattle.batched.specs.Ready.{creditorAt, Ready, Batches, batchRoom, batchesFrom, messageBy};
+ghost use Rattle.batched.specs.Ready.{creditorAt, ListReady, BatchesReady, batchRoom, batchesFrom, messageBy};
 use profile::ControlSum;
 use profile::NumberOfTransactions;
 
@@ -29,7 +29,7 @@ fn count_all(labels: &[u64], batches: u64) -> NumberOfTransactions
 
 // Their cents.
 fn cents_all(list: &[u8], table: &[usize], labels: &[u64], batches: u64) -> ControlSum
-    requires { ⌜ Ready (now list) (now table) (now labels) ⌝ }
+    requires { ⌜ ListReady (now list) (now table) (now labels) ⌝ }
     requires { ⌜ batches ≤ mostBatches ⌝ }
     ensures { λ r. ⌜ r .0 ≡ total (λ k. total (λ x. x .cents) (pick k (now (labels .entry)) (listed (now (list .entry))))) (upTo batches) ⌝ }
 {
@@ -51,7 +51,7 @@ fn put_batches(
     labels: &[u64],
     batches: u64,
 ) -> usize
-    requires { ⌜ Batches (now list) (now table) (now labels) batches ⌝ }
+    requires { ⌜ BatchesReady (now list) (now table) (now labels) batches ⌝ }
     requires { ⌜ at + batchRoom * mostBatches < 2 ^ 32 ⌝ }
     ensures { λ r. ⌜ Wrote (now (out .entry)) (now (out .exit)) at r (batchesBytes (creditorAt (now (list .entry))) 1 (batchesFrom 0 batches (now (labels .entry)) (listed (now (list .entry))))) ⌝ }
     ensures { λ r. ⌜ r ≤ at + batchRoom * mostBatches ⌝ }
@@ -73,7 +73,7 @@ pub fn put_message(
     labels: &[u64],
     batches: u64,
 ) -> usize
-    requires { ⌜ Batches (now list) (now table) (now labels) batches ⌝ }
+    requires { ⌜ BatchesReady (now list) (now table) (now labels) batches ⌝ }
     ensures { λ r. ⌜ Wrote (now (out .entry)) (now (out .exit)) 0 r (messageBy (now (list .entry)) (now (labels .entry)) batches) ⌝ }
 {
     let count = count_all(labels, batches);

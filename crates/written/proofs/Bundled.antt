@@ -17,8 +17,8 @@ use Rattle.tree.specs.Form.{message}
 use Rattle.tree.specs.Pain008.{declaration}
 use Rattle.bundle.specs.Bundle.{Decides, cut, pieces, having, allTerms, bundle, need}
 use Rattle.bundle.proofs.Batches.{batches-same, batches-number}
-use Rattle.listed.specs.Listed.{sameTerms, Collection, Creditor, creditor, listed}
-use Rattle.listed.specs.Good.{GoodCollection, GoodCreditor}
+use Rattle.collections.specs.Listed.{sameTerms, Collection, Creditor, creditor, listed}
+use Rattle.collections.specs.Good.{GoodCollection, GoodCreditor}
 use Rattle.written.specs.Written.{messageOf, batchesFor, written}
 use Rattle.written.specs.Pieces.{messageBytes}
 use Rattle.written.proofs.Clean.{Clean}

@@ -15,9 +15,9 @@ use borrow.Author.Tests.{ltb-true, ltb-false, ne-eqb}
 use Rattle.laws.specs.Bytes.{Bytes, all}
 use Rattle.laws.specs.Lists.{keep}
 use Rattle.laws.proofs.Tests.{and-l, and-r, and-both, T-true}
-use Rattle.put.specs.Numerals.{digit, decimalOf, decimal, euros, batchId}
+use Rattle.put.specs.Numerals.{lastDigit, decimalOf, decimal, euros, batchId}
 use Rattle.tree.specs.Form.{inText}
-use Rattle.listed.specs.Listed.{Collection, Creditor}
+use Rattle.collections.specs.Listed.{Collection, Creditor}
 use Rattle.written.specs.Written.{schemeWord, sequenceWord}
 
 -- no byte of s is `<`
@@ -50,7 +50,7 @@ pub record CleanCreditor (cr : Creditor) : Type 0 where
 
 -- ─── numbers and words ───
 
-pub digit-clean : (n : ℕ) → T (inText (digit n))
+pub digit-clean : (n : ℕ) → T (inText (lastDigit n))
 digit-clean n = rw (ne-eqb (48 + n % 10) 60 (λ e. omega (arith, mod-lt n {m = 10} (omega arith)))) tt
 
 pub all-append : (p : ℕ → Bool) (s t : Bytes) → T (all p s) → T (all p t) → T (all p (s ++ t))
@@ -58,33 +58,33 @@ all-append p [] t a b = b
 all-append p (c ∷ s) t a b = and-both (p c) (all p (s ++ t)) (and-l (p c) (all p s) a) (all-append p s t (and-r (p c) (all p s) a) b)
 
 -- by cases on whether one digit is left
-pub decimal-cases : (P : Bytes → Type 0) (most n : ℕ) → (n < 10 → P (digit n ∷ [])) → (10 ≤ n → P (decimalOf most (n / 10) ++ (digit n ∷ []))) → P (decimalOf (suc most) n)
+pub decimal-cases : (P : Bytes → Type 0) (most n : ℕ) → (n < 10 → P (lastDigit n ∷ [])) → (10 ≤ n → P (decimalOf most (n / 10) ++ (lastDigit n ∷ []))) → P (decimalOf (suc most) n)
 unfolding decimalOf
 decimal-cases P most n f g = go (ltb n 10) refl
   where
-    go : (z : Bool) → ltb n 10 ≡ z → P (elim z [ true ↦ digit n ∷ [] | false ↦ decimalOf most (n / 10) ++ (digit n ∷ []) ])
+    go : (z : Bool) → ltb n 10 ≡ z → P (elim z [ true ↦ lastDigit n ∷ [] | false ↦ decimalOf most (n / 10) ++ (lastDigit n ∷ []) ])
     go true e = f (ltb-true n 10 e)
     go false e = g (ltb-false n 10 e)
 
-pub decimal-all : (p : ℕ → Bool) → ((n : ℕ) → T (p (digit n))) → (most n : ℕ) → T (all p (decimalOf most n))
+pub decimal-all : (p : ℕ → Bool) → ((n : ℕ) → T (p (lastDigit n))) → (most n : ℕ) → T (all p (decimalOf most n))
 unfolding decimalOf
 decimal-all p f zero n = tt
 decimal-all p f (suc most) n =
-    let d : T (all p (digit n ∷ [])) = and-both (p (digit n)) true (f n) tt in
-    decimal-cases (λ s. T (all p s)) most n (λ h. d) (λ h. all-append p (decimalOf most (n / 10)) (digit n ∷ []) (decimal-all p f most (n / 10)) d)
+    let d : T (all p (lastDigit n ∷ [])) = and-both (p (lastDigit n)) true (f n) tt in
+    decimal-cases (λ s. T (all p s)) most n (λ h. d) (λ h. all-append p (decimalOf most (n / 10)) (lastDigit n ∷ []) (decimal-all p f most (n / 10)) d)
 
 pub decimal-clean : (n : ℕ) → T (clean (decimal n))
 decimal-clean n = decimal-all inText digit-clean 20 n
 
 pub euros-clean : (n : ℕ) → T (clean (euros n))
 euros-clean n =
-    all-append inText (decimal (n / 100)) (46 ∷ digit (n / 10) ∷ digit n ∷ []) (decimal-clean (n / 100))
-    (and-both (inText (digit (n / 10))) (clean (digit n ∷ [])) (digit-clean (n / 10)) (and-both (inText (digit n)) true (digit-clean n) tt))
+    all-append inText (decimal (n / 100)) (46 ∷ lastDigit (n / 10) ∷ lastDigit n ∷ []) (decimal-clean (n / 100))
+    (and-both (inText (lastDigit (n / 10))) (clean (lastDigit n ∷ [])) (digit-clean (n / 10)) (and-both (inText (lastDigit n)) true (digit-clean n) tt))
 
 pub batch-id-clean : (n : ℕ) → T (clean (batchId n))
 batch-id-clean n =
-    and-both (inText (digit (n / 100))) (clean (digit (n / 10) ∷ digit n ∷ [])) (digit-clean (n / 100))
-    (and-both (inText (digit (n / 10))) (clean (digit n ∷ [])) (digit-clean (n / 10)) (and-both (inText (digit n)) true (digit-clean n) tt))
+    and-both (inText (lastDigit (n / 100))) (clean (lastDigit (n / 10) ∷ lastDigit n ∷ [])) (digit-clean (n / 100))
+    (and-both (inText (lastDigit (n / 10))) (clean (lastDigit n ∷ [])) (digit-clean (n / 10)) (and-both (inText (lastDigit n)) true (digit-clean n) tt))
 
 pub scheme-clean : (n : ℕ) → T (clean (schemeWord n))
 scheme-clean zero = tt

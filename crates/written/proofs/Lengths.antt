@@ -12,8 +12,8 @@ use Rattle.laws.specs.Lists.{total, All, concat, gather}
 use Rattle.laws.proofs.Counts.{All-append}
 use Rattle.profile.specs.Limits.{mostBytes, mostBatches, mostCents, mostCollections}
 use Rattle.text.specs.Rules.{remittance}
-use Rattle.listed.specs.Listed.{Collection, Creditor}
-use Rattle.listed.specs.Good.{GoodCollection, GoodCreditor}
+use Rattle.collections.specs.Listed.{Collection, Creditor}
+use Rattle.collections.specs.Good.{GoodCollection, GoodCreditor}
 use Rattle.written.specs.Written.{schemeWord, sequenceWord, termsOf}
 use Rattle.written.specs.Pieces.{bankBytes, remittanceBytes, transactionBytes, headBytes, batchBytes, batchesBytes, openingBytes, messageBytes}
 use Rattle.written.proofs.Texts.{identifier-short, name-short, date-short, time-short, iban-short, creditor-identifier-short, bank-short, remitted-short}

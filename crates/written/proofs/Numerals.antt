@@ -19,22 +19,22 @@ use borrow.Author.Tests.{lt-ltb, ne-eqb}
 use Rattle.laws.specs.Bytes.{Bytes, ascii, all, span}
 use Rattle.laws.proofs.Tests.{true-T, and-l, and-r, T-true}
 use Rattle.marks.proofs.Classes.{letter-within}
-use Rattle.marks.specs.Marks.{letter, digit as isDigit, value, valueFrom}
+use Rattle.marks.specs.Marks.{letter, digit, value, valueFrom}
 use Rattle.profile.specs.Limits.{mostCents}
 use Rattle.text.specs.declared.Judged.the-variants.{Good}
-use Rattle.text.specs.Rules.{count, hundredths, decimals, euros as ofEuros, cents, sum, amount, identifier, method, booking, sepa, scheme, sequence, charges, notProvided}
+use Rattle.text.specs.Rules.{count, hundredths, decimals, inEuros, cents, sum, amount, identifier, method, booking, sepa, scheme, sequence, charges, notProvided}
 use Rattle.text.proofs.Musts.{between-in}
-use Rattle.put.specs.Numerals.{digit, decimalOf, decimal, euros, batchId}
+use Rattle.put.specs.Numerals.{lastDigit, decimalOf, decimal, euros, batchId}
 use Rattle.written.specs.Written.{schemeWord, sequenceWord}
 use Rattle.written.proofs.Clean.{decimal-cases, decimal-all}
 
 -- ─── digits ───
 
-digit-is : (n : ℕ) → isDigit (digit n) ≡ true
+digit-is : (n : ℕ) → digit (lastDigit n) ≡ true
 digit-is n = let h : n % 10 < 10 = mod-lt n {m = 10} (omega arith) in between-in 48 57 (48 + n % 10) (omega arith) (omega arith)
 
-decimal-digits : (most n : ℕ) → T (all isDigit (decimalOf most n))
-decimal-digits = decimal-all isDigit (λ n. true-T (isDigit (digit n)) (digit-is n))
+decimal-digits : (most n : ℕ) → T (all digit (decimalOf most n))
+decimal-digits = decimal-all digit (λ n. true-T (digit (lastDigit n)) (digit-is n))
 
 value-append : (v : ℕ) (s t : Bytes) → valueFrom v (s ++ t) ≡ valueFrom (valueFrom v s) t
 value-append v [] t = refl
@@ -48,10 +48,10 @@ unfolding decimalOf
 decimal-value zero n h = omega arith
 decimal-value (suc most) n h =
     decimal-cases (λ s. value s ≡ n) most n (λ l. omega (arith, mod-eq-of-lt {n = n} {m = 10} l))
-    (λ l. value-append 0 (decimalOf most (n / 10)) (digit n ∷ []) ∙ rw (decimal-value most (n / 10) (fewer n most h)) (omega (arith, div-add-mod' n 10)))
+    (λ l. value-append 0 (decimalOf most (n / 10)) (lastDigit n ∷ []) ∙ rw (decimal-value most (n / 10) (fewer n most h)) (omega (arith, div-add-mod' n 10)))
 
 decimal-some : (most n : ℕ) → 1 ≤ length (decimalOf (suc most) n)
-decimal-some most n = decimal-cases (λ s. 1 ≤ length s) most n (λ h. omega arith) (λ h. omega (arith, length-append (decimalOf most (n / 10)) (digit n ∷ [])))
+decimal-some most n = decimal-cases (λ s. 1 ≤ length s) most n (λ h. omega arith) (λ h. omega (arith, length-append (decimalOf most (n / 10)) (lastDigit n ∷ [])))
 
 decimal-few : (most k n : ℕ) → n < 10 ^ suc k → length (decimalOf most n) ≤ suc k
 unfolding decimalOf
@@ -59,36 +59,36 @@ decimal-few zero k n h = omega arith
 decimal-few (suc most) zero n h = rw (lt-ltb n 10 h, decimalOf) (omega arith)
 decimal-few (suc most) (suc k) n h =
     decimal-cases (λ s. length s ≤ suc (suc k)) most n (λ l. omega arith)
-    (λ l. omega (arith, length-append (decimalOf most (n / 10)) (digit n ∷ []), decimal-few most k (n / 10) (fewer n (suc k) h)))
+    (λ l. omega (arith, length-append (decimalOf most (n / 10)) (lastDigit n ∷ []), decimal-few most k (n / 10) (fewer n (suc k) h)))
 
 -- ─── a count ───
 
 pub count-good : (n : ℕ) → n < 10 ^ 15 → count (decimal n) ≡ Good n
 count-good n h =
-    rw (between-in 1 15 (length (decimal n)) (decimal-some 19 n) (decimal-few 20 14 n h), T-true (all isDigit (decimal n)) (decimal-digits 20 n), decimal-value 20 n (omega arith))
+    rw (between-in 1 15 (length (decimal n)) (decimal-some 19 n) (decimal-few 20 14 n h), T-true (all digit (decimal n)) (decimal-digits 20 n), decimal-value 20 n (omega arith))
 
 -- ─── sums and amounts: 46 is the point ───
 
 abbrev tail : ℕ → Bytes
-tail n = 46 ∷ digit (n / 10) ∷ digit n ∷ []
+tail n = 46 ∷ lastDigit (n / 10) ∷ lastDigit n ∷ []
 
 span-on : (p : ℕ → Bool) (c : ℕ) (s : Bytes) → p c ≡ true → span p (c ∷ s) ≡ suc (span p s)
 span-on p c s e = rw (e, span)
 
-span-front : (s t : Bytes) → T (all isDigit s) → span isDigit (s ++ (46 ∷ t)) ≡ length s
+span-front : (s t : Bytes) → T (all digit s) → span digit (s ++ (46 ∷ t)) ≡ length s
 span-front [] t a = refl
 span-front (c ∷ s) t a =
-    rw (span-on isDigit c (s ++ (46 ∷ t)) (T-true (isDigit c) (and-l (isDigit c) (all isDigit s) a))) (ap suc (span-front s t (and-r (isDigit c) (all isDigit s) a)))
+    rw (span-on digit c (s ++ (46 ∷ t)) (T-true (digit c) (and-l (digit c) (all digit s) a))) (ap suc (span-front s t (and-r (digit c) (all digit s) a)))
 
 module _ (n : ℕ) where
-  euros-span : span isDigit (euros n) ≡ length (decimal (n / 100))
-  euros-span = span-front (decimal (n / 100)) (digit (n / 10) ∷ digit n ∷ []) (decimal-digits 20 (n / 100))
+  euros-span : span digit (euros n) ≡ length (decimal (n / 100))
+  euros-span = span-front (decimal (n / 100)) (lastDigit (n / 10) ∷ lastDigit n ∷ []) (decimal-digits 20 (n / 100))
 
-  euros-front : take (span isDigit (euros n)) (euros n) ≡ decimal (n / 100)
-  euros-front = take-at (decimal (n / 100)) (tail n) (span isDigit (euros n)) (sym euros-span)
+  euros-front : take (span digit (euros n)) (euros n) ≡ decimal (n / 100)
+  euros-front = take-at (decimal (n / 100)) (tail n) (span digit (euros n)) (sym euros-span)
 
-  euros-rest : drop (span isDigit (euros n)) (euros n) ≡ tail n
-  euros-rest = drop-at (decimal (n / 100)) (tail n) (span isDigit (euros n)) (sym euros-span)
+  euros-rest : drop (span digit (euros n)) (euros n) ≡ tail n
+  euros-rest = drop-at (decimal (n / 100)) (tail n) (span digit (euros n)) (sym euros-span)
 
   tail-decimals : decimals (tail n) ≡ true
   tail-decimals = rw (digit-is (n / 10), digit-is n)
@@ -102,7 +102,7 @@ module _ (n : ℕ) where
   euros-cents : n / 100 < 10 ^ 20 → cents (euros n) ≡ n
   euros-cents h = rw (euros-front, euros-rest, decimal-value 20 (n / 100) h) tail-hundredths
 
-  euros-of : (k : ℕ) → length (decimal (n / 100)) ≤ k → ofEuros k (euros n) ≡ true
+  euros-of : (k : ℕ) → length (decimal (n / 100)) ≤ k → inEuros k (euros n) ≡ true
   euros-of k h = rw (euros-rest, euros-span, between-in 1 k (length (decimal (n / 100))) (decimal-some 19 (n / 100)) h) tail-decimals
 
   pub sum-good : n < 10 ^ 17 → sum (euros n) ≡ Good n
@@ -119,11 +119,11 @@ decimal-length n k = decimal-few 20 k n
 
 -- ─── words ───
 
-digit-letter : (n : ℕ) → letter (digit n) ≡ true
+digit-letter : (n : ℕ) → letter (lastDigit n) ≡ true
 digit-letter n = let h : n % 10 < 10 = mod-lt n {m = 10} (omega arith) in sym (letter-within 48 10 (48 + n % 10) (omega arith) (omega arith) tt)
 
 -- 47 is `/`
-digit-slash : (n : ℕ) → eqb 47 (digit n) ≡ false
+digit-slash : (n : ℕ) → eqb 47 (lastDigit n) ≡ false
 digit-slash n = ne-eqb 47 (48 + n % 10) (λ e. omega arith)
 
 pub batch-id-good : (n : ℕ) → identifier (batchId n) ≡ Good 0

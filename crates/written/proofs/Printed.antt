@@ -12,12 +12,12 @@ use lib.ListN.{length, length-map}
 use Rattle.laws.specs.Bytes.{Bytes, ascii}
 use Rattle.laws.specs.Lists.{total, All, concat, gather}
 use Rattle.laws.proofs.Tests.{T-true}
-use Rattle.put.specs.Numerals.{digit, decimal, euros}
+use Rattle.put.specs.Numerals.{lastDigit, decimal, euros}
 use Rattle.tree.specs.Form.{inText, Elem, Tree, print, printKids, message}
 use Rattle.tree.specs.Parts as part
 use Rattle.tree.specs.Pain008.{declaration}
 use Rattle.tree.proofs.Onto.{bytes, kidBytes, bytes-print, kids-print}
-use Rattle.listed.specs.Listed.{Collection, Creditor}
+use Rattle.collections.specs.Listed.{Collection, Creditor}
 use Rattle.written.specs.Blocks.{more, several}
 use Rattle.written.specs.Written.{bankTree, remittanceTree, transactionTree, batchTree, batchTrees, messageOf, schemeWord, sequenceWord, termsOf, noCollection}
 use Rattle.written.specs.Pieces.{bankBytes, remittanceBytes, transactionBytes, headBytes, batchBytes, batchesBytes, openingBytes, messageBytes}
@@ -70,8 +70,8 @@ transactions-print : (xs : List Collection) → All Clean xs → gather print (m
 transactions-print [] h = refl
 transactions-print (x ∷ xs) h = ap₂ {C = Bytes} (λ (a b : Bytes). a ++ b) (transaction-print x (h .0)) (transactions-print xs (h .1))
 
-digit-kept : (n : ℕ) → inText (digit n) ≡ true
-digit-kept n = T-true (inText (digit n)) (digit-clean n)
+digit-kept : (n : ℕ) → inText (lastDigit n) ≡ true
+digit-kept n = T-true (inText (lastDigit n)) (digit-clean n)
 
 date-clean : (xs : List Collection) → All Clean xs → T (clean (termsOf xs .date))
 date-clean [] h = tt

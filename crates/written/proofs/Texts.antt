@@ -17,10 +17,10 @@ use Rattle.marks.specs.Marks.{capitalOrDigit, letterOrDigit, letter, mark, fits
 use Rattle.marks.proofs.Classes.{fits-all}
 use Rattle.profile.specs.declared.Flaw.{Flaw}
 use Rattle.text.specs.declared.Judged.{Judged}
-use Rattle.text.specs.Rules.{must, good, plain, identifier, name, remittance, part, realDay, dated, date, clock, time, iban, bic, creditorIdentifier}
+use Rattle.text.specs.Rules.{must, good, plain, identifier, name, remittance, valueAt, realDay, dated, date, clock, time, iban, bic, creditorIdentifier}
 use Rattle.tree.specs.Form.{inText}
-use Rattle.listed.specs.Listed.{Collection, Creditor}
-use Rattle.listed.specs.Good.{emptyOr, GoodCollection, GoodCreditor}
+use Rattle.collections.specs.Listed.{Collection, Creditor}
+use Rattle.collections.specs.Good.{emptyOr, GoodCollection, GoodCreditor}
 use Rattle.written.proofs.Clean.{clean, all-append, Clean, CleanCreditor}
 
 pub record Short (n : ℕ) (s : Bytes) : Type 0 where
@@ -90,11 +90,11 @@ module _ (s : Bytes) where
   remittance-short = text-short 140
 
 dated-short : (s : Bytes) → T (dated s) → Short 10 s
-dated-short s t = fits-short (ascii "DDDD-DD-DD") s tt (and-l (fits (ascii "DDDD-DD-DD") s) (realDay (part 0 4 s) (part 5 2 s) (part 8 2 s)) t)
+dated-short s t = fits-short (ascii "DDDD-DD-DD") s tt (and-l (fits (ascii "DDDD-DD-DD") s) (realDay (valueAt 0 4 s) (valueAt 5 2 s) (valueAt 8 2 s)) t)
 
 clock-short : (s : Bytes) → T (clock s) → Short 9 s
 clock-short s t =
-    fits-short (ascii "TDD:DD:DD") s tt (and-l (fits (ascii "TDD:DD:DD") s) (between 0 23 (part 1 2 s) && (between 0 59 (part 4 2 s) && between 0 59 (part 7 2 s))) t)
+    fits-short (ascii "TDD:DD:DD") s tt (and-l (fits (ascii "TDD:DD:DD") s) (between 0 23 (valueAt 1 2 s) && (between 0 59 (valueAt 4 2 s) && between 0 59 (valueAt 7 2 s))) t)
 
 -- a front that fits a pattern, and a rest of a class
 shaped-short : (p : Bytes) (k m : ℕ) (q : ℕ → Bool) (s : Bytes) → T (all (λ c. not (mark c 60)) p) → (T (q 60) → ⊥)

@@ -13,7 +13,7 @@ use Rattle.laws.specs.Bytes.{Bytes, ascii}
 use Rattle.laws.specs.Lists.{total, concat, gather}
 use Rattle.put.specs.Numerals.{decimal, euros, batchId}
 use Rattle.tree.specs.Pain008.{declaration}
-use Rattle.listed.specs.Listed.{Terms, Collection, Creditor}
+use Rattle.collections.specs.Listed.{Terms, Collection, Creditor}
 use Rattle.written.specs.Written.{schemeWord, sequenceWord, termsOf}
 
 abbrev pub bankBytes : Bytes → Bytes

@@ -18,7 +18,7 @@ use Rattle.tree.specs.Form.{Tree, Kids, Message, message, Items.none, Kids.end}
 use Rattle.tree.specs.Parts as part
 use Rattle.tree.specs.Pain008.{txt, box, _plays_, _optional_, only as last, bank, account, GrpHdr, PmtInf, DrctDbtTxInf, Document, declaration}
 use Rattle.bundle.specs.Bundle.{bundle}
-use Rattle.listed.specs.Listed.{Terms, sameTerms, Collection, Creditor, creditor, listed}
+use Rattle.collections.specs.Listed.{Terms, sameTerms, Collection, Creditor, creditor, listed}
 use Rattle.written.specs.Blocks.{bare, leaf, node, _before_, _given_, absent, only, this, other, several}
 
 -- ─── words ───

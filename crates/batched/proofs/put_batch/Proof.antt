@@ -3,7 +3,7 @@ use Rattle.batched.proofs.Heads.{first-under, first-terms, head-join}
 use Rattle.batched.proofs.Picks.{pick-count}
 use Rattle.batched.specs.Ready.{creditorAt}
 use Rattle.put.proofs.Writes.{wrote-then}
-use Rattle.listed.specs.Listed.{listed}
+use Rattle.collections.specs.Listed.{listed}
 use Rattle.bundle.specs.Labels.{pick}
 use Rattle.written.specs.Written.{noCollection}
 use Rattle.written.specs.Pieces.{batchBytes}

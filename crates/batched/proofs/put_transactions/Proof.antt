@@ -3,7 +3,7 @@ use Rattle.batched.proofs.Picks.{written-on, written-end}
 use Rattle.batched.proofs.Going.{Going, going-start, going-on, going-end}
 use Rattle.laws.specs.Lists.{gather}
 use Rattle.bundle.specs.Labels.{pick}
-use Rattle.listed.specs.Listed.{listed}
+use Rattle.collections.specs.Listed.{listed}
 use Rattle.written.specs.Pieces.{transactionBytes}
 use lib.ListN.{length, drop}
 use Prim.Native.Nat.{_+_, _-_, _*_, _≤_}

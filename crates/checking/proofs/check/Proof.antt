@@ -1,7 +1,7 @@
 -- `check` meets its contract: refused; or accepted, and filled by the second walk.
 use mathlib.Core.Path.{subst}
 use Rattle.answer.specs.declared.Checked.{Checked}
-use Rattle.checked.specs.Check.{roomOf}
+use Rattle.promise.specs.Check.{roomOf}
 use Rattle.checking.specs.Inner.{Verdicts}
 use Rattle.checking.proofs.Passes.{lent-none, filled-lent, check-refused, check-accepted}
 use borrow.Author.Needs.{needs}

@@ -1,6 +1,6 @@
 -- `put::digits_of` meets its contract. The invariant: the digits of what is left of the number, and behind them those that are written.
 use Rattle.put.proofs.Writes.{decimal-last, decimal-more, store-front}
-use Rattle.put.specs.Numerals.{digit, decimalOf, decimal}
+use Rattle.put.specs.Numerals.{lastDigit, decimalOf, decimal}
 use Rattle.laws.specs.Bytes.{Bytes}
 use lib.ListN.{length, drop, set, length-set, drop-of-length-le}
 use mathlib.Core.List.{[], _∷_, _++_, append-assoc, append-nil}
@@ -19,12 +19,12 @@ abbrev μ-loop : tie.MeasureT-loop
 
 module _ (n i left : ℕ) (s : Bytes) (v : ℕ) (h : 0 < i) (l : i ≤ length s) where
   -- the last digit is written
-  wrote-last : left < 10 → v ≡ digit left → decimal n ≡ decimalOf i left ++ drop i s → drop (i - 1) (set s (i - 1) v) ≡ decimal n
+  wrote-last : left < 10 → v ≡ lastDigit left → decimal n ≡ decimalOf i left ++ drop i s → drop (i - 1) (set s (i - 1) v) ≡ decimal n
   wrote-last k e f = store-front s i v h l ∙ rw e (sym (f ∙ rw (decimal-last i left h k)))
 
   -- one digit is, and others are left
-  wrote-more : 10 ≤ left → v ≡ digit left → decimal n ≡ decimalOf i left ++ drop i s → decimal n ≡ decimalOf (i - 1) (left / 10) ++ drop (i - 1) (set s (i - 1) v)
-  wrote-more k e f = f ∙ rw (decimal-more i left h k, store-front s i v h l, e) (append-assoc (decimalOf (i - 1) (left / 10)) (digit left ∷ []) (drop i s))
+  wrote-more : 10 ≤ left → v ≡ lastDigit left → decimal n ≡ decimalOf i left ++ drop i s → decimal n ≡ decimalOf (i - 1) (left / 10) ++ drop (i - 1) (set s (i - 1) v)
+  wrote-more k e f = f ∙ rw (decimal-more i left h k, store-front s i v h l, e) (append-assoc (decimalOf (i - 1) (left / 10)) (lastDigit left ∷ []) (drop i s))
 
 -- no digit is left to write
 wrote-all : (n i left : ℕ) (s : Bytes) → i ≡ 0 → decimal n ≡ decimalOf i left ++ drop i s → drop i s ≡ decimal n

@@ -2,7 +2,7 @@
 use Rattle.write.proofs.Answers.{answered-many, answered-good}
 use Rattle.write.specs.Write.{answered}
 use Rattle.write.proofs.Readies.{batches-ready, written-is, written-short}
-use Rattle.listed.proofs.Batches.{need-by-number}
+use Rattle.collections.proofs.Batches.{need-by-number}
 use lib.ListN.{length}
 use mathlib.Core.Path.{_≡_, _∙_}
 use native.Mathlib.Omega.{arith}

@@ -4,7 +4,7 @@ use Rattle.profile.specs.Limits.{mostCents}
 use lib.ListN.{getD, take, drop}
 use Rattle.frames.specs.Frames.{leadOf, frameOf}
 use Rattle.daylist.specs.Values.{judgedLead, firstBad, else}
-use Rattle.daylist.specs.Lead.{scheme, sequence, cents}
+use Rattle.daylist.specs.Lead.{leadScheme, leadSequence, leadCents}
 use Rattle.daylist.proofs.Judging.{lead-none, lead-is}
 use Rattle.frames.specs.Hex.{unhex}
 use Rattle.text.proofs.Musts.{between-under, between-over, between-in}
@@ -17,7 +17,7 @@ use Rattle.daylist.proofs.values.judge_lead.Tie as tie
 
 -- the three fields of a collection
 lead : (c : tie.Else1) → (let s = unhex (c .before .before .args .line .now) in let n = c .before .before .args .number in
-    firstBad (judgedLead n (leadOf (frameOf n) s)) ≡ else (scheme (getD s 1 0)) (else (sequence (getD s 2 0)) (else (cents (take 5 (drop 3 s))) (Good 0))))
+    firstBad (judgedLead n (leadOf (frameOf n) s)) ≡ else (leadScheme (getD s 1 0)) (else (leadSequence (getD s 2 0)) (else (leadCents (take 5 (drop 3 s))) (Good 0))))
 lead c = lead-is (c .before .before .args .number) (unhex (c .before .before .args .line .now)) (c .if1 .left)
 
 returns : tie.Need-returns

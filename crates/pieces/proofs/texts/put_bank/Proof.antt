@@ -2,7 +2,7 @@
 use Rattle.put.proofs.Writes.{wrote-then}
 use Rattle.pieces.proofs.Shorts.{text-has, text-told, text-none, text-some}
 use Rattle.pieces.proofs.Choices.{bank-none, bank-some}
-use Rattle.pieces.specs.Texts.{textAt}
+use Rattle.pieces.specs.Texts.{lineText}
 use Rattle.frames.specs.Hex.{unhex}
 use native.Mathlib.Omega.{arith}
 use mathlib.Core.Path.{refl}
@@ -22,7 +22,7 @@ put-requires c κs = search needs
 returns : tie.Need-returns
 returns c =
     let x = c .before .before .before .before .before .before .before .before .before .before .before in
-    (bank-none (textAt (x .args .number) (x .args .i) (unhex (x .args .line .now))) (text-none (x .args .number) (x .args .i) (x .args .line .now) _ _ (c .before .before .before .before .before .before .before .before .frame-of .ensures) (c .before .before .before .before .before .before .before .text-part .ensures) (c .before .before .before .before .before .if1 .taken)) (c .before .before .put .ensures), omega arith)
+    (bank-none (lineText (x .args .number) (x .args .i) (unhex (x .args .line .now))) (text-none (x .args .number) (x .args .i) (x .args .line .now) _ _ (c .before .before .before .before .before .before .before .before .frame-of .ensures) (c .before .before .before .before .before .before .before .text-part .ensures) (c .before .before .before .before .before .if1 .taken)) (c .before .before .put .ensures), omega arith)
 
 same-length : tie.Need-same-length
 same-length c = returns c .0 .same
@@ -41,7 +41,7 @@ put-requires-3 c κs = omega (arith, c .before .before .before .before .put-part
 returns-2 : tie.Need-returns-2
 returns-2 c =
     let x = c .before .before .before .before .before .before .before .before .before .before .before .before .before .before .before .before .before .before .before .before in
-    (bank-some (textAt (x .args .number) (x .args .i) (unhex (x .args .line .now))) (text-some (x .args .number) (x .args .i) (x .args .line .now) _ _ (c .before .before .before .before .before .before .before .before .before .before .before .before .before .before .before .before .before .frame-of .ensures) (c .before .before .before .before .before .before .before .before .before .before .before .before .before .before .before .before .text-part .ensures) (c .before .before .before .before .before .before .before .before .before .before .before .before .before .before .if1 .left)) (wrote-then _ _ (c .before .before .before .before .before .before .before .before .before .before .before .put2 .ensures) (wrote-then _ _ (c .before .before .before .before .before .before .before .put-part .ensures .0) (c .before .before .put3 .ensures))), omega (arith, c .before .before .put3 .ensures .end, c .before .before .before .before .before .before .before .put-part .ensures .1, c .before .before .before .before .before .before .before .before .before .before .before .put2 .ensures .end))
+    (bank-some (lineText (x .args .number) (x .args .i) (unhex (x .args .line .now))) (text-some (x .args .number) (x .args .i) (x .args .line .now) _ _ (c .before .before .before .before .before .before .before .before .before .before .before .before .before .before .before .before .before .frame-of .ensures) (c .before .before .before .before .before .before .before .before .before .before .before .before .before .before .before .before .text-part .ensures) (c .before .before .before .before .before .before .before .before .before .before .before .before .before .before .if1 .left)) (wrote-then _ _ (c .before .before .before .before .before .before .before .before .before .before .before .put2 .ensures) (wrote-then _ _ (c .before .before .before .before .before .before .before .put-part .ensures .0) (c .before .before .put3 .ensures))), omega (arith, c .before .before .put3 .ensures .end, c .before .before .before .before .before .before .before .put-part .ensures .1, c .before .before .before .before .before .before .before .before .before .before .before .put2 .ensures .end))
 
 same-length-2 : tie.Need-same-length-2
 same-length-2 c = returns-2 c .0 .same

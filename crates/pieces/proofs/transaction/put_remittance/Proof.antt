@@ -3,7 +3,7 @@ use Rattle.put.proofs.Writes.{wrote-then}
 use Rattle.put.proofs.Writes.{wrote-nil}
 use Rattle.pieces.proofs.Shorts.{text-has, text-told, text-none, text-some}
 use Rattle.pieces.proofs.Choices.{remittance-none, remittance-some}
-use Rattle.pieces.specs.Texts.{textAt}
+use Rattle.pieces.specs.Texts.{lineText}
 use Rattle.frames.specs.Hex.{unhex}
 use native.Mathlib.Omega.{arith}
 use mathlib.Core.Path.{refl}
@@ -20,7 +20,7 @@ text-part-requires c κs = let x = c .before .before .before in text-has 2 7 (un
 returns : tie.Need-returns
 returns c =
     let x = c .before .before .before .before .before .before in
-    (remittance-none (textAt 2 7 (unhex (x .args .line .now))) (text-none 2 7 (x .args .line .now) _ _ (c .before .before .before .frame-of .ensures) (c .before .before .text-part .ensures) (c .if1 .taken)) (wrote-nil _ _), omega arith)
+    (remittance-none (lineText 2 7 (unhex (x .args .line .now))) (text-none 2 7 (x .args .line .now) _ _ (c .before .before .before .frame-of .ensures) (c .before .before .text-part .ensures) (c .if1 .taken)) (wrote-nil _ _), omega arith)
 
 put-requires : tie.Need-put-requires
 put-requires c κs = search needs
@@ -36,7 +36,7 @@ put-requires-2 c κs = omega (arith, c .before .before .before .before .put-part
 returns-2 : tie.Need-returns-2
 returns-2 c =
     let x = c .before .before .before .before .before .before .before .before .before .before .before .before .before .before .before .before .before .before .before .before in
-    (remittance-some (textAt 2 7 (unhex (x .args .line .now))) (text-some 2 7 (x .args .line .now) _ _ (c .before .before .before .before .before .before .before .before .before .before .before .before .before .before .before .before .before .frame-of .ensures) (c .before .before .before .before .before .before .before .before .before .before .before .before .before .before .before .before .text-part .ensures) (c .before .before .before .before .before .before .before .before .before .before .before .before .before .before .if1 .left)) (wrote-then _ _ (c .before .before .before .before .before .before .before .before .before .before .before .put .ensures) (wrote-then _ _ (c .before .before .before .before .before .before .before .put-part .ensures .0) (c .before .before .put2 .ensures))), omega (arith, c .before .before .put2 .ensures .end, c .before .before .before .before .before .before .before .put-part .ensures .1, c .before .before .before .before .before .before .before .before .before .before .before .put .ensures .end))
+    (remittance-some (lineText 2 7 (unhex (x .args .line .now))) (text-some 2 7 (x .args .line .now) _ _ (c .before .before .before .before .before .before .before .before .before .before .before .before .before .before .before .before .before .frame-of .ensures) (c .before .before .before .before .before .before .before .before .before .before .before .before .before .before .before .before .text-part .ensures) (c .before .before .before .before .before .before .before .before .before .before .before .before .before .before .if1 .left)) (wrote-then _ _ (c .before .before .before .before .before .before .before .before .before .before .before .put .ensures) (wrote-then _ _ (c .before .before .before .before .before .before .before .put-part .ensures .0) (c .before .before .put2 .ensures))), omega (arith, c .before .before .put2 .ensures .end, c .before .before .before .before .before .before .before .put-part .ensures .1, c .before .before .before .before .before .before .before .before .before .before .before .put .ensures .end))
 
 same-length : tie.Need-same-length
 same-length c = returns-2 c .0 .same

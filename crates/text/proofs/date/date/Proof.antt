@@ -7,7 +7,7 @@ use borrow.Author.Needs.{needs}
 use borrow.Author.Tests.{not-true, not-false}
 use Rattle.laws.specs.Bytes.{Bytes, ascii}
 use Rattle.marks.specs.Marks.{fits}
-use Rattle.text.specs.Rules.{part, realDay}
+use Rattle.text.specs.Rules.{valueAt, realDay}
 use Rattle.text.proofs.Days.{part-there, part-under}
 use Rattle.text.proofs.date.date.Statement.{statement}
 use Rattle.text.proofs.date.date.Tie as tie
@@ -23,7 +23,7 @@ shaped : (c : tie.Else1) → fits shape (text c) ≡ true
 shaped c = sym (c .before .has-shape .ensures) ∙ not-false _ (c .if1 .left)
 
 -- what `is_real_day` answers, of the parts
-real : (c : tie.After-is-real-day) → (let s = text (c .before .before .before .before) in realDay (part 0 4 s) (part 5 2 s) (part 8 2 s) ≡ c .is-real-day .result)
+real : (c : tie.After-is-real-day) → (let s = text (c .before .before .before .before) in realDay (valueAt 0 4 s) (valueAt 5 2 s) (valueAt 8 2 s) ≡ c .is-real-day .result)
 real c = rw (c .before .part-of3 .ensures, c .before .before .part-of2 .ensures, c .before .before .before .part-of .ensures) at (sym (c .is-real-day .ensures))
 
 -- the parts are small

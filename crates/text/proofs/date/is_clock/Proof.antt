@@ -6,7 +6,7 @@ use borrow.Author.Needs.{needs}
 use borrow.Author.Tests.{not-true, not-false, le-leb}
 use Rattle.laws.specs.Bytes.{Bytes, ascii, between}
 use Rattle.marks.specs.Marks.{fits}
-use Rattle.text.specs.Rules.{part}
+use Rattle.text.specs.Rules.{valueAt}
 use Rattle.text.proofs.Musts.{between-over, between-in}
 use Rattle.text.proofs.Days.{part-there}
 use Rattle.text.proofs.date.is_clock.Statement.{statement}
@@ -37,7 +37,7 @@ part-of-requires c κs = part-there 1 2 shape (text c) tt (shaped c)
 returns-2 : tie.Need-returns-2
 returns-2 c =
     let x = c .before .before in
-    rw (shaped x, between-over 0 23 (part 1 2 (text x)) (rw (c .before .part-of .ensures) at (c .if2 .taken)))
+    rw (shaped x, between-over 0 23 (valueAt 1 2 (text x)) (rw (c .before .part-of .ensures) at (c .if2 .taken)))
 
 part-of-requires-2 : tie.Need-part-of-requires-2
 part-of-requires-2 c κs = part-there 4 2 shape (text (c .before .before)) tt (shaped (c .before .before))
@@ -45,7 +45,7 @@ part-of-requires-2 c κs = part-there 4 2 shape (text (c .before .before)) tt (s
 returns-3 : tie.Need-returns-3
 returns-3 c =
     let x = c .before .before .before .before in
-    rw (shaped x, between-over 0 59 (part 4 2 (text x)) (rw (c .before .part-of2 .ensures) at (c .if3 .taken)), and-false (between 0 23 (part 1 2 (text x))))
+    rw (shaped x, between-over 0 59 (valueAt 4 2 (text x)) (rw (c .before .part-of2 .ensures) at (c .if3 .taken)), and-false (between 0 23 (valueAt 1 2 (text x))))
 
 part-of-requires-3 : tie.Need-part-of-requires-3
 part-of-requires-3 c κs = part-there 7 2 shape (text (c .before .before .before .before)) tt (shaped (c .before .before .before .before))
@@ -56,9 +56,9 @@ returns-4 c =
     rw (
       c .part-of3 .ensures,
       shaped x,
-      between-in 0 23 (part 1 2 (text x)) zero-le (rw (c .before .before .before .before .part-of .ensures) at (c .before .before .before .if2 .left)),
-      between-in 0 59 (part 4 2 (text x)) zero-le (rw (c .before .before .part-of2 .ensures) at (c .before .if3 .left)),
-      le-leb 0 (part 7 2 (text x)) zero-le,
+      between-in 0 23 (valueAt 1 2 (text x)) zero-le (rw (c .before .before .before .before .part-of .ensures) at (c .before .before .before .if2 .left)),
+      between-in 0 59 (valueAt 4 2 (text x)) zero-le (rw (c .before .before .part-of2 .ensures) at (c .before .if3 .left)),
+      le-leb 0 (valueAt 7 2 (text x)) zero-le,
     )
 
 pub is-clock-spec : {M : Type 1} → statement M

@@ -2,7 +2,7 @@
 use Rattle.write.proofs.Rounds.{Tallied, tallied-start, tallied-on, tallied-end}
 use Rattle.laws.specs.Lists.{total}
 use Rattle.bundle.specs.Labels.{pick}
-use Rattle.listed.specs.Listed.{listed}
+use Rattle.collections.specs.Listed.{listed}
 use Rattle.profile.specs.Limits.{mostCents, mostCollections}
 use Prim.Native.Nat.{_-_, _*_, _≤_}
 use native.Mathlib.Omega.{arith}

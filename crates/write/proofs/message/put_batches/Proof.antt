@@ -2,7 +2,7 @@
 use Rattle.write.proofs.Rounds.{batches-go, batches-end, batches-all}
 use Rattle.batched.proofs.Going.{Going, going-start, going-on, going-end}
 use Rattle.batched.specs.Ready.{creditorAt, batchRoom, batchesFrom}
-use Rattle.listed.specs.Listed.{listed}
+use Rattle.collections.specs.Listed.{listed}
 use Rattle.written.specs.Pieces.{batchesBytes}
 use Rattle.laws.specs.Bytes.{Bytes}
 use mathlib.Core.Path.{subst}

@@ -3,7 +3,7 @@ use Rattle.write.proofs.Rounds.{concat-count, concat-cents, message-joi
 use Rattle.put.proofs.Writes.{wrote-then}
 use Rattle.batched.specs.Ready.{creditorAt, batchesFrom}
 use Rattle.daylist.proofs.Ends.{part-is}
-use Rattle.listed.specs.Listed.{listed}
+use Rattle.collections.specs.Listed.{listed}
 use mathlib.Core.Path.{refl, _∙_}
 use native.Mathlib.Omega.{arith}
 use borrow.Author.Needs.{needs}
