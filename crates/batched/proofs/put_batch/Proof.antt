@@ -58,13 +58,17 @@ put-creditor-at-requires c κs =
 
 put-transactions-requires : tie.Need-put-transactions-requires
 put-transactions-requires c κs =
+    let put-totals = c .before .before .before .before .before .before .before .before .before .before .before .before .put-totals in
     let q = c .before .before .before .before .before .before .before .before .before .before .before .before .before .before .before .before .before .before .before .before .before .pre in
-    (q .0 .ready, omega (arith, c .before .before .before .put-creditor-at .ensures .1, c .before .before .before .before .before .before .before .put-terms-at .ensures .1, c .before .before .before .before .before .before .before .before .before .before .before .before .put-totals .ensures .1, q .0 .ready .few, q .1))
+    (q .0 .ready, omega (arith, c .before .before .before .put-creditor-at .ensures .1, c .before .before .before .before .before .before .before .put-terms-at .ensures .1, put-totals .ensures .1, q .0 .ready .few, q .1))
 
 put-requires : tie.Need-put-requires
 put-requires c κs =
+    let put-totals = c .before .before .before .before .before .before .before .before .before .before .before .before .before .before .before .before .before .put-totals in
+    let put-terms-at = c .before .before .before .before .before .before .before .before .before .before .before .before .put-terms-at in
+    let put-creditor-at = c .before .before .before .before .before .before .before .before .put-creditor-at in
     let q = c .before .before .before .before .before .before .before .before .before .before .before .before .before .before .before .before .before .before .before .before .before .before .before .before .before .before .pre in
-    omega (arith, c .before .before .before .before .put-transactions .ensures .1, c .before .before .before .before .before .before .before .before .put-creditor-at .ensures .1, c .before .before .before .before .before .before .before .before .before .before .before .before .put-terms-at .ensures .1, c .before .before .before .before .before .before .before .before .before .before .before .before .before .before .before .before .before .put-totals .ensures .1, q .0 .ready .few, q .1)
+    omega (arith, c .before .before .before .before .put-transactions .ensures .1, put-creditor-at .ensures .1, put-terms-at .ensures .1, put-totals .ensures .1, q .0 .ready .few, q .1)
 
 same-length : tie.Need-same-length
 same-length c = search needs
@@ -72,18 +76,24 @@ same-length c = search needs
 returns : tie.Need-returns
 unfolding batchBytes
 returns c =
+    let count-of = c .before .before .before .before .before .before .before .before .before .before .before .before .before .before .before .before .before .before .before .before .before .before .before .before .count-of in
+    let cents-of = c .before .before .before .before .before .before .before .before .before .before .before .before .before .before .before .before .before .before .before .before .before .before .before .cents-of in
+    let put-totals = c .before .before .before .before .before .before .before .before .before .before .before .before .before .before .before .before .before .before .before .before .put-totals in
+    let put-terms-at = c .before .before .before .before .before .before .before .before .before .before .before .before .before .before .before .put-terms-at in
+    let put-creditor-at = c .before .before .before .before .before .before .before .before .before .before .before .put-creditor-at in
+    let put-transactions = c .before .before .before .before .before .before .before .put-transactions in
     let x = c .before .before .before .before .before .before .before .before .before .before .before .before .before .before .before .before .before .before .before .before .before .before .before .before .before .before .before .before .before in
     let q = x .pre .0 in
     let f = c .before .before .before .before .before .before .before .before .before .before .before .before .before .before .before .before .before .before .before .before .before .before .first-of in
     let xs = pick (x .args .batch) (x .args .labels .now) (listed (x .args .list .now)) in (
       wrote-then _ _
           (head-join (creditorAt (x .args .list .now)) (x .args .batch + 1) xs _ _ _
-          (c .before .before .before .before .before .before .before .before .before .before .before .before .before .before .before .before .before .before .before .before .before .before .before .before .count-of .ensures ∙ sym (pick-count (x .args .batch) noCollection (x .args .labels .now) (listed (x .args .list .now)) (q .ready .count)))
-          (c .before .before .before .before .before .before .before .before .before .before .before .before .before .before .before .before .before .before .before .before .before .before .before .cents-of .ensures .0)
+          (count-of .ensures ∙ sym (pick-count (x .args .batch) noCollection (x .args .labels .now) (listed (x .args .list .now)) (q .ready .count)))
+          (cents-of .ensures .0)
           (first-terms (x .args .list .now) (x .args .table .now) (x .args .labels .now) (x .args .batch) q (f .result) (f .ensures))
-          (wrote-then _ _ (c .before .before .before .before .before .before .before .before .before .before .before .before .before .before .before .before .before .before .before .before .put-totals .ensures .0) (wrote-then _ _ (c .before .before .before .before .before .before .before .before .before .before .before .before .before .before .before .put-terms-at .ensures .0) (c .before .before .before .before .before .before .before .before .before .before .before .put-creditor-at .ensures .0))))
-          (wrote-then _ _ (c .before .before .before .before .before .before .before .put-transactions .ensures .0) (c .before .before .put .ensures)),
-      omega (arith, q .ready .few, c .before .before .put .ensures .end, c .before .before .before .before .before .before .before .put-transactions .ensures .1, c .before .before .before .before .before .before .before .before .before .before .before .put-creditor-at .ensures .1, c .before .before .before .before .before .before .before .before .before .before .before .before .before .before .before .put-terms-at .ensures .1, c .before .before .before .before .before .before .before .before .before .before .before .before .before .before .before .before .before .before .before .before .put-totals .ensures .1),
+          (wrote-then _ _ (put-totals .ensures .0) (wrote-then _ _ (put-terms-at .ensures .0) (put-creditor-at .ensures .0))))
+          (wrote-then _ _ (put-transactions .ensures .0) (c .before .before .put .ensures)),
+      omega (arith, q .ready .few, c .before .before .put .ensures .end, put-transactions .ensures .1, put-creditor-at .ensures .1, put-terms-at .ensures .1, put-totals .ensures .1),
     )
 
 pub put-batch-spec : {M : Type 1} → statement M

@@ -55,7 +55,9 @@ same-length-2 c = search needs
 
 returns : tie.Need-returns
 returns c =
-    check-refused (c .before .before .before .before .before .before .before .before .before .before .before .before .before .before .before .args .message .now) (c .before .before .before .before .before .before .before .before .before .before .before .before .before .before .before .args .slips .now) (c .before .before .before .before .before .before .before .before .before .before .before .before .before .before .before .args .rows .now) _ _ _ (subst (λ (r : Checked). Verdicts (c .before .before .before .before .before .before .before .before .before .before .before .before .before .before .before .args .message .now) (roomOf (c .before .before .before .before .before .before .before .before .before .before .before .before .before .before .before .args .slips .now) (c .before .before .before .before .before .before .before .before .before .before .before .before .before .before .before .args .rows .now)) r) (c .before .checked .given .1) (c .before .before .before .before .before .before .before .pass .ensures .0)) (lent-none (c .before .before .before .before .before .before .before .before .before .before .before .before .before .before .before .args .slips .now) (c .before .before .before .before .before .before .before .pass .last .1 .1 .0) (search needs)) (lent-none (c .before .before .before .before .before .before .before .before .before .before .before .before .before .before .before .args .rows .now) (c .before .before .before .before .before .before .before .pass .last .1 .1 .1 .0) (search needs))
+    let a = c .before .before .before .before .before .before .before .before .before .before .before .before .before .before .before .args in
+    let pass = c .before .before .before .before .before .before .before .pass in
+    check-refused (a .message .now) (a .slips .now) (a .rows .now) _ _ _ (subst (λ (r : Checked). Verdicts (a .message .now) (roomOf (a .slips .now) (a .rows .now)) r) (c .before .checked .given .1) (pass .ensures .0)) (lent-none (a .slips .now) (pass .last .1 .1 .0) (search needs)) (lent-none (a .rows .now) (pass .last .1 .1 .1 .0) (search needs))
 
 same-length-3 : tie.Need-same-length-3
 same-length-3 c = search needs
@@ -65,10 +67,13 @@ same-length-4 c = search needs
 
 returns-2 : tie.Need-returns-2
 returns-2 c =
-    check-accepted (c .before .before .before .before .before .before .before .before .before .before .before .before .before .before .before .before .before .before .before .before .before .before .before .args .message .now) (c .before .before .before .before .before .before .before .before .before .before .before .before .before .before .before .before .before .before .before .before .before .before .before .args .slips .now) (c .before .before .before .before .before .before .before .before .before .before .before .before .before .before .before .before .before .before .before .before .before .before .before .args .rows .now) _ _ _ (subst (λ (r : Checked). Verdicts (c .before .before .before .before .before .before .before .before .before .before .before .before .before .before .before .before .before .before .before .before .before .before .before .args .message .now) (roomOf (c .before .before .before .before .before .before .before .before .before .before .before .before .before .before .before .before .before .before .before .before .before .before .before .args .slips .now) (c .before .before .before .before .before .before .before .before .before .before .before .before .before .before .before .before .before .before .before .before .before .before .before .args .rows .now)) r) (c .before .before .before .before .before .before .before .before .before .checked2 .given .1) (c .before .before .before .before .before .before .before .before .before .before .before .before .before .before .before .pass .ensures .0))
-    (filled-lent (c .before .before .before .before .before .before .before .before .before .before .before .before .before .before .before .before .before .before .before .before .before .before .before .args .message .now) (c .before .before .before .before .before .before .before .before .before .before .before .before .before .before .before .before .before .before .before .before .before .before .before .args .slips .now) (c .before .before .before .before .before .before .before .before .before .before .before .before .before .before .before .before .before .before .before .before .before .before .before .args .rows .now) _ _ _ _
-    (lent-none (c .before .before .before .before .before .before .before .before .before .before .before .before .before .before .before .before .before .before .before .before .before .before .before .args .slips .now) (c .before .before .before .before .before .before .before .before .before .before .before .before .before .before .before .pass .last .1 .1 .0) (search needs))
-    (lent-none (c .before .before .before .before .before .before .before .before .before .before .before .before .before .before .before .before .before .before .before .before .before .before .before .args .rows .now) (c .before .before .before .before .before .before .before .before .before .before .before .before .before .before .before .pass .last .1 .1 .1 .0) (search needs)) (c .before .before .before .before .pass2 .ensures .1))
+    let a = c .before .before .before .before .before .before .before .before .before .before .before .before .before .before .before .before .before .before .before .before .before .before .before .args in
+    let pass = c .before .before .before .before .before .before .before .before .before .before .before .before .before .before .before .pass in
+    let checked2 = c .before .before .before .before .before .before .before .before .before .checked2 in
+    check-accepted (a .message .now) (a .slips .now) (a .rows .now) _ _ _ (subst (λ (r : Checked). Verdicts (a .message .now) (roomOf (a .slips .now) (a .rows .now)) r) (checked2 .given .1) (pass .ensures .0))
+    (filled-lent (a .message .now) (a .slips .now) (a .rows .now) _ _ _ _
+    (lent-none (a .slips .now) (pass .last .1 .1 .0) (search needs))
+    (lent-none (a .rows .now) (pass .last .1 .1 .1 .0) (search needs)) (c .before .before .before .before .pass2 .ensures .1))
 
 pub check-spec : {M : Type 1} → statement M
 check-spec =

@@ -22,7 +22,11 @@ say-requires : tie.Need-say-requires
 say-requires c κs = search needs
 
 begin-batch-requires : tie.Need-begin-batch-requires
-begin-batch-requires c κs = begin-fits (c .before .before .before .before .before .before .before .before .before .before .before .before .before .before .before .before .before .before .before .before .before .before .before .before .before .before .args .heard .now) _ (c .before .before .before .before .before .before .before .before .before .before .before .before .before .before .before .before .before .before .before .before .before .before .before .before .before .before .args .tally) _ (c .before .before .before .before .before .before .before .before .before .before .before .before .before .before .before .before .before .before .before .before .before .before .before .before .before .before .args .slips .now) _ (c .before .before .before .before .before .before .before .before .before .before .before .before .before .before .before .before .before .before .before .before .before .before .before .before .before .before .args .rows .now) _ (c .before .before .before .before .before .before .before .before .before .before .before .before .before .before .before .before .before .before .before .before .before .before .before .before .before .before .pre .1 .1) (c .before .before .before .before .before .before .before .before .before .before .before .before .before .before .before .before .before .before .shut .ensures)
+begin-batch-requires c κs =
+    let a = c .before .before .before .before .before .before .before .before .before .before .before .before .before .before .before .before .before .before .before .before .before .before .before .before .before .before .args in
+    let p = c .before .before .before .before .before .before .before .before .before .before .before .before .before .before .before .before .before .before .before .before .before .before .before .before .before .before .pre in
+    let shut = c .before .before .before .before .before .before .before .before .before .before .before .before .before .before .before .before .before .before .shut in
+    begin-fits (a .heard .now) _ (a .tally) _ (a .slips .now) _ (a .rows .now) _ (p .1 .1) (shut .ensures)
 
 same-length : tie.Need-same-length
 same-length c = search needs
@@ -35,8 +39,12 @@ same-length-3 c = search needs
 
 returns : tie.Need-returns
 returns c =
-    begins-batch (c .before .before .before .before .before .before .before .before .before .before .before .before .before .before .before .before .before .before .before .before .before .before .before .before .before .before .before .args .place) (c .before .before .before .before .before .before .before .before .before .before .before .before .before .before .before .before .before .before .before .before .before .before .before .before .before .before .before .args .start) (c .before .before .before .before .before .before .before .before .before .before .before .before .before .before .before .before .before .before .before .before .before .before .before .before .before .before .before .args .size) _ _ _ _ _ _ _ _ (stateOf (c .before .before .before .before .before .before .before .before .before .before .before .before .before .before .before .before .before .before .before .before .before .before .before .before .before .before .before .args .heard .now) (c .before .before .before .before .before .before .before .before .before .before .before .before .before .before .before .before .before .before .before .before .before .before .before .before .before .before .before .args .tally) (c .before .before .before .before .before .before .before .before .before .before .before .before .before .before .before .before .before .before .before .before .before .before .before .before .before .before .before .args .slips .now) (c .before .before .before .before .before .before .before .before .before .before .before .before .before .before .before .before .before .before .before .before .before .before .before .before .before .before .before .args .rows .now)) (c .before .before .before .before .before .before .before .before .before .before .before .before .before .before .before .before .before .before .before .shut .ensures) (c .before .before .before .before .before .before .before .before .before .before .before .forget .ensures) (c .before .before .before .before .before .before .before .count-batch .ensures) (c .before .before .before .say .ensures) (c .begin-batch .ensures)
-    ∙ ap (λ (k : ℕ). step (stateOf (c .before .before .before .before .before .before .before .before .before .before .before .before .before .before .before .before .before .before .before .before .before .before .before .before .before .before .before .args .heard .now) (c .before .before .before .before .before .before .before .before .before .before .before .before .before .before .before .before .before .before .before .before .before .before .before .before .before .before .before .args .tally) (c .before .before .before .before .before .before .before .before .before .before .before .before .before .before .before .before .before .before .before .before .before .before .before .before .before .before .before .args .slips .now) (c .before .before .before .before .before .before .before .before .before .before .before .before .before .before .before .before .before .before .before .before .before .before .before .before .before .before .before .args .rows .now)) (record { part = k; place = c .before .before .before .before .before .before .before .before .before .before .before .before .before .before .before .before .before .before .before .before .before .before .before .before .before .before .before .args .place; start = c .before .before .before .before .before .before .before .before .before .before .before .before .before .before .before .before .before .before .before .before .before .before .before .before .before .before .before .args .start; length = c .before .before .before .before .before .before .before .before .before .before .before .before .before .before .before .before .before .before .before .before .before .before .before .before .before .before .before .args .size; judged = Good 0 })) (sym (c .before .before .before .before .before .before .before .before .before .before .before .before .before .before .before .before .before .before .before .before .before .before .before .if1 .taken))
+    let a = c .before .before .before .before .before .before .before .before .before .before .before .before .before .before .before .before .before .before .before .before .before .before .before .before .before .before .before .args in
+    let if1 = c .before .before .before .before .before .before .before .before .before .before .before .before .before .before .before .before .before .before .before .before .before .before .before .if1 in
+    let shut = c .before .before .before .before .before .before .before .before .before .before .before .before .before .before .before .before .before .before .before .shut in
+    let forget = c .before .before .before .before .before .before .before .before .before .before .before .forget in
+    begins-batch (a .place) (a .start) (a .size) _ _ _ _ _ _ _ _ (stateOf (a .heard .now) (a .tally) (a .slips .now) (a .rows .now)) (shut .ensures) (forget .ensures) (c .before .before .before .before .before .before .before .count-batch .ensures) (c .before .before .before .say .ensures) (c .begin-batch .ensures)
+    ∙ ap (λ (k : ℕ). step (stateOf (a .heard .now) (a .tally) (a .slips .now) (a .rows .now)) (record { part = k; place = a .place; start = a .start; length = a .size; judged = Good 0 })) (sym (if1 .taken))
 
 settle-requires : tie.Need-settle-requires
 settle-requires c κs = search needs
@@ -58,8 +66,12 @@ same-length-5 c = search needs
 
 returns-2 : tie.Need-returns-2
 returns-2 c =
-    begins-transaction (c .before .before .before .before .before .before .before .before .before .before .before .before .before .before .before .before .before .before .before .before .before .before .args .place) (c .before .before .before .before .before .before .before .before .before .before .before .before .before .before .before .before .before .before .before .before .before .before .args .start) (c .before .before .before .before .before .before .before .before .before .before .before .before .before .before .before .before .before .before .before .before .before .before .args .size) _ (c .before .before .before .before .before .before .before .before .before .before .before .before .before .before .before .before .before .before .before .before .before .before .args .heard .now) _ _ (c .before .before .before .before .before .before .before .before .before .before .before .before .before .before .before .before .before .before .before .before .before .before .args .tally) _ (c .before .before .before .before .before .before .before .before .before .before .before .before .before .before .before .before .before .before .before .before .before .before .args .slips .now) _ (c .before .before .before .before .before .before .before .before .before .before .before .before .before .before .before .before .before .before .before .before .before .before .args .rows .now) (c .before .before .before .before .before .before .before .before .before .before .before .before .before .before .settle .ensures .0) (c .before .before .before .before .before .before .before .before .before .before .before .before .before .before .settle .ensures .1) (c .before .before .before .before .before .before .before .before .before .before .forget2 .ensures) (c .before .before .before .before .before .before .count-transaction .ensures) (c .before .before .say2 .ensures)
-    ∙ ap (λ (k : ℕ). step (stateOf (c .before .before .before .before .before .before .before .before .before .before .before .before .before .before .before .before .before .before .before .before .before .before .args .heard .now) (c .before .before .before .before .before .before .before .before .before .before .before .before .before .before .before .before .before .before .before .before .before .before .args .tally) (c .before .before .before .before .before .before .before .before .before .before .before .before .before .before .before .before .before .before .before .before .before .before .args .slips .now) (c .before .before .before .before .before .before .before .before .before .before .before .before .before .before .before .before .before .before .before .before .before .before .args .rows .now)) (record { part = k; place = c .before .before .before .before .before .before .before .before .before .before .before .before .before .before .before .before .before .before .before .before .before .before .args .place; start = c .before .before .before .before .before .before .before .before .before .before .before .before .before .before .before .before .before .before .before .before .before .before .args .start; length = c .before .before .before .before .before .before .before .before .before .before .before .before .before .before .before .before .before .before .before .before .before .before .args .size; judged = Good 0 })) (sym (c .before .before .before .before .before .before .before .before .before .before .before .before .before .before .before .before .before .if2 .taken))
+    let a = c .before .before .before .before .before .before .before .before .before .before .before .before .before .before .before .before .before .before .before .before .before .before .args in
+    let if2 = c .before .before .before .before .before .before .before .before .before .before .before .before .before .before .before .before .before .if2 in
+    let settle = c .before .before .before .before .before .before .before .before .before .before .before .before .before .before .settle in
+    let forget2 = c .before .before .before .before .before .before .before .before .before .before .forget2 in
+    begins-transaction (a .place) (a .start) (a .size) _ (a .heard .now) _ _ (a .tally) _ (a .slips .now) _ (a .rows .now) (settle .ensures .0) (settle .ensures .1) (forget2 .ensures) (c .before .before .before .before .before .before .count-transaction .ensures) (c .before .before .say2 .ensures)
+    ∙ ap (λ (k : ℕ). step (stateOf (a .heard .now) (a .tally) (a .slips .now) (a .rows .now)) (record { part = k; place = a .place; start = a .start; length = a .size; judged = Good 0 })) (sym (if2 .taken))
 
 say-requires-3 : tie.Need-say-requires-3
 say-requires-3 c κs = search needs
@@ -68,7 +80,9 @@ same-length-6 : tie.Need-same-length-6
 same-length-6 c = search needs
 
 returns-3 : tie.Need-returns-3
-returns-3 c = begins-other _ (c .before .before .before .before .before .before .before .before .before .args .place) (c .before .before .before .before .before .before .before .before .before .args .start) (c .before .before .before .before .before .before .before .before .before .args .size) _ (c .before .before .before .before .before .before .before .before .before .args .heard .now) _ _ _ (c .before .before .before .before .before .if1 .left) (c .before .before .before .before .if2 .left) (c .before .before .say3 .ensures)
+returns-3 c =
+    let a = c .before .before .before .before .before .before .before .before .before .args in
+    begins-other _ (a .place) (a .start) (a .size) _ (a .heard .now) _ _ _ (c .before .before .before .before .before .if1 .left) (c .before .before .before .before .if2 .left) (c .before .before .say3 .ensures)
 
 pub begin-spec : {M : Type 1} → statement M
 begin-spec =

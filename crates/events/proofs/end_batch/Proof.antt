@@ -29,8 +29,11 @@ same-length-2 c = search needs
 
 returns-2 : tie.Need-returns-2
 returns-2 c =
-    ended-some (rowOf (c .before .before .before .before .before .before .before .before .before .before .before .before .before .before .before .args .heard .now)) (c .before .before .before .before .before .before .before .before .before .before .before .before .before .before .before .args .tally) (c .before .before .before .before .before .before .before .before .before .before .before .before .before .before .before .args .rows .now) _ _ (c .before .before .before .before .before .before .before .before .before .before .before .if1 .left) (c .before .before .before .before .before .before .before .before .put-row .ensures)
-    (c .before .before .note-batch .ensures ∙ ap (λ (b : Batch). withFault (rowOf (c .before .before .before .before .before .before .before .before .before .before .before .before .before .before .before .args .heard .now)) (faultIn b (rowOf (c .before .before .before .before .before .before .before .before .before .before .before .before .before .before .before .args .heard .now) .said part.batchCount .start) (rowOf (c .before .before .before .before .before .before .before .before .before .before .before .before .before .before .before .args .heard .now) .said part.batchSum .start))) (c .before .before .before .before .batch-of .ensures))
+    let a = c .before .before .before .before .before .before .before .before .before .before .before .before .before .before .before .args in
+    let if1 = c .before .before .before .before .before .before .before .before .before .before .before .if1 in
+    let put-row = c .before .before .before .before .before .before .before .before .put-row in
+    ended-some (rowOf (a .heard .now)) (a .tally) (a .rows .now) _ _ (if1 .left) (put-row .ensures)
+    (c .before .before .note-batch .ensures ∙ ap (λ (b : Batch). withFault (rowOf (a .heard .now)) (faultIn b (rowOf (a .heard .now) .said part.batchCount .start) (rowOf (a .heard .now) .said part.batchSum .start))) (c .before .before .before .before .batch-of .ensures))
 
 pub end-batch-spec : {M : Type 1} → statement M
 end-batch-spec =

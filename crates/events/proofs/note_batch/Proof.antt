@@ -17,7 +17,9 @@ same-length : tie.Need-same-length
 same-length c = search needs
 
 returns : tie.Need-returns
-returns c = noted-count (c .before .before .before .before .before .before .before .before .before .before .args .heard .now) (c .before .before .before .before .before .before .before .before .before .before .args .batch) _ (c .before .before .before .before .before .before .before .count-differs .ensures) _ _ (c .before .before .before .before .before .before .if1 .taken) (c .before .before .before .before .number .ensures) (c .before .before .note-fault .ensures)
+returns c =
+    let a = c .before .before .before .before .before .before .before .before .before .before .args in
+    noted-count (a .heard .now) (a .batch) _ (c .before .before .before .before .before .before .before .count-differs .ensures) _ _ (c .before .before .before .before .before .before .if1 .taken) (c .before .before .before .before .number .ensures) (c .before .before .note-fault .ensures)
 
 sum-differs-requires : tie.Need-sum-differs-requires
 sum-differs-requires c κs = search needs
@@ -33,10 +35,15 @@ same-length-2 c = search needs
 
 returns-2 : tie.Need-returns-2
 returns-2 c =
-    noted-sum (c .before .before .before .before .before .before .before .before .before .before .before .before .before .args .heard .now) (c .before .before .before .before .before .before .before .before .before .before .before .before .before .args .batch) _ (c .before .before .before .before .before .before .before .before .before .before .count-differs .ensures) _ (c .before .before .before .before .before .before .before .sum-differs .ensures) (c .before .before .before .before .before .before .before .before .before .if1 .left) _ _ (c .before .before .before .before .before .before .if2 .taken) (c .before .before .before .before .number2 .ensures) (c .before .before .note-fault2 .ensures)
+    let a = c .before .before .before .before .before .before .before .before .before .before .before .before .before .args in
+    let count-differs = c .before .before .before .before .before .before .before .before .before .before .count-differs in
+    let if1 = c .before .before .before .before .before .before .before .before .before .if1 in
+    noted-sum (a .heard .now) (a .batch) _ (count-differs .ensures) _ (c .before .before .before .before .before .before .before .sum-differs .ensures) (if1 .left) _ _ (c .before .before .before .before .before .before .if2 .taken) (c .before .before .before .before .number2 .ensures) (c .before .before .note-fault2 .ensures)
 
 returns-3 : tie.Need-returns-3
-returns-3 c = noted-none (c .before .before .before .before .before .before .before .args .heard .now) (c .before .before .before .before .before .before .before .args .batch) _ (c .before .before .before .before .count-differs .ensures) _ (c .before .sum-differs .ensures) (c .before .before .before .if1 .left) (c .if2 .left)
+returns-3 c =
+    let a = c .before .before .before .before .before .before .before .args in
+    noted-none (a .heard .now) (a .batch) _ (c .before .before .before .before .count-differs .ensures) _ (c .before .sum-differs .ensures) (c .before .before .before .if1 .left) (c .if2 .left)
 
 pub note-batch-spec : {M : Type 1} → statement M
 note-batch-spec =

@@ -20,14 +20,19 @@ number-requires-2 : tie.Need-number-requires-2
 number-requires-2 c κs = search needs
 
 add-transaction-requires : tie.Need-add-transaction-requires
-add-transaction-requires c κs = add-fits (c .before .before .before .before .before .before .before .before .before .before .before .args .heard .now) (c .before .before .before .before .before .before .before .before .before .before .before .args .tally) (c .before .before .before .before .before .before .before .before .before .before .before .args .slips .now) _ (c .before .before .before .before .before .before .before .before .before .before .before .pre .1) (c .number2 .ensures)
+add-transaction-requires c κs =
+    let a = c .before .before .before .before .before .before .before .before .before .before .before .args in
+    let p = c .before .before .before .before .before .before .before .before .before .before .before .pre in
+    add-fits (a .heard .now) (a .tally) (a .slips .now) _ (p .1) (c .number2 .ensures)
 
 same-length : tie.Need-same-length
 same-length c = search needs
 
 returns-3 : tie.Need-returns-3
 returns-3 c =
-    settled-some (c .before .before .before .before .before .before .before .before .before .before .before .before .args .heard .now) _ (c .before .before .before .before .before .before .before .before .before .before .before .before .args .slips .now) _ _ _ _ (c .before .before .before .before .before .before .before .before .if1 .left) (c .before .before .before .before .before .before .before .number .ensures) (c .before .before .before .before .before .before .if2 .left) (c .before .number2 .ensures) (c .add-transaction .ensures)
+    let a = c .before .before .before .before .before .before .before .before .before .before .before .before .args in
+    let if1 = c .before .before .before .before .before .before .before .before .if1 in
+    settled-some (a .heard .now) _ (a .slips .now) _ _ _ _ (if1 .left) (c .before .before .before .before .before .before .before .number .ensures) (c .before .before .before .before .before .before .if2 .left) (c .before .number2 .ensures) (c .add-transaction .ensures)
     (c .before .before .before .before .put-slip .ensures)
 
 pub settle-spec : {M : Type 1} → statement M

@@ -8,10 +8,17 @@ settle-requires : tie.Need-settle-requires
 settle-requires c κs = search needs
 
 end-batch-requires : tie.Need-end-batch-requires
-end-batch-requires c κs = (c .before .before .before .before .before .before .before .before .before .before .pre .0, settled-within (c .before .before .before .before .before .before .before .before .before .before .args .heard .now) (c .before .before .before .before .before .before .before .before .before .before .args .tally) (c .before .before .before .before .before .before .before .before .before .before .args .slips .now) _ (c .before .before .before .before .before .before .before .before .before .before .pre .1) (c .before .before .before .before .settle .ensures .0))
+end-batch-requires c κs =
+    let p = c .before .before .before .before .before .before .before .before .before .before .pre in
+    let a = c .before .before .before .before .before .before .before .before .before .before .args in
+    (p .0, settled-within (a .heard .now) (a .tally) (a .slips .now) _ (p .1) (c .before .before .before .before .settle .ensures .0))
 
 close-batch-requires : tie.Need-close-batch-requires
-close-batch-requires c κs = close-fits (c .before .before .before .before .before .before .before .before .before .before .before .before .before .before .before .args .heard .now) (c .before .before .before .before .before .before .before .before .before .before .before .before .before .before .before .args .tally) (c .before .before .before .before .before .before .before .before .before .before .before .before .before .before .before .args .slips .now) _ (c .before .before .before .before .before .before .before .before .before .before .before .before .before .before .before .pre .1) (c .before .before .before .before .before .before .before .before .before .settle .ensures .0)
+close-batch-requires c κs =
+    let a = c .before .before .before .before .before .before .before .before .before .before .before .before .before .before .before .args in
+    let p = c .before .before .before .before .before .before .before .before .before .before .before .before .before .before .before .pre in
+    let settle = c .before .before .before .before .before .before .before .before .before .settle in
+    close-fits (a .heard .now) (a .tally) (a .slips .now) _ (p .1) (settle .ensures .0)
 
 same-length : tie.Need-same-length
 same-length c = search needs
@@ -24,7 +31,10 @@ same-length-3 c = search needs
 
 returns : tie.Need-returns
 returns c =
-    shut-is (c .before .before .before .before .before .before .before .before .before .before .before .before .before .before .before .before .args .heard .now) _ (c .before .before .before .before .before .before .before .before .before .before .before .before .before .before .before .before .args .tally) _ _ (c .before .before .before .before .before .before .before .before .before .before .before .before .before .before .before .before .args .slips .now) _ (c .before .before .before .before .before .before .before .before .before .before .before .before .before .before .before .before .args .rows .now) _ (c .before .before .before .before .before .before .before .before .before .before .settle .ensures .0) (c .before .before .before .before .before .before .before .before .before .before .settle .ensures .1) (c .before .before .before .before .before .end-batch .ensures .0) (c .before .before .before .before .before .end-batch .ensures .1)
+    let a = c .before .before .before .before .before .before .before .before .before .before .before .before .before .before .before .before .args in
+    let settle = c .before .before .before .before .before .before .before .before .before .before .settle in
+    let end-batch = c .before .before .before .before .before .end-batch in
+    shut-is (a .heard .now) _ (a .tally) _ _ (a .slips .now) _ (a .rows .now) _ (settle .ensures .0) (settle .ensures .1) (end-batch .ensures .0) (end-batch .ensures .1)
     (c .close-batch .ensures)
 
 pub shut-spec : {M : Type 1} → statement M

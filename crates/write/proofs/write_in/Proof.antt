@@ -21,10 +21,12 @@ same-length-2 c = search needs
 
 returns : tie.Need-returns
 returns c =
+    let a = c .before .before .before .before .before .before .before .before .before .before .before .before .args in
+    let p = c .before .before .before .before .before .before .before .before .before .before .before .before .pre in
     let x = c .before .before .before .before .before .before .before .before .before .before .before .before in
     let l = c .before .before .before .before .before .label in
     answered-many (x .args .list .now) (x .args .ceiling) (x .args .out .now) (length (x .args .labels .now)) (x .pre .0) (l .result)
-    (l .ensures .0 ∙ need-by-number (c .before .before .before .before .before .before .before .before .before .before .before .before .args .list .now) (c .before .before .before .before .before .before .before .before .before .before .before .before .args .ceiling) (length (c .before .before .before .before .before .before .before .before .before .before .before .before .args .labels .now)) (c .before .before .before .before .before .before .before .before .before .before .before .before .pre .0)) (c .if1 .taken)
+    (l .ensures .0 ∙ need-by-number (a .list .now) (a .ceiling) (length (a .labels .now)) (p .0)) (c .if1 .taken)
 
 write-labelled-requires : tie.Need-write-labelled-requires
 write-labelled-requires c κs =

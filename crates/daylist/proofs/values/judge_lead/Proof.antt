@@ -39,13 +39,22 @@ high-first-requires : tie.Need-high-first-requires
 high-first-requires c κs = search needs
 
 returns-4 : tie.Need-returns-4
-returns-4 c = rw (lead (c .before .before .before .before .before .before), ← (c .before .before .before .before .before .byte-at .ensures), le-leb (c .before .before .before .before .before .byte-at .result) 1 (c .before .before .before .before .if2 .left), ← (c .before .before .before .byte-at2 .ensures), le-leb (c .before .before .before .byte-at2 .result) 3 (c .before .before .if3 .left), ← (c .before .high-first .ensures), between-under 1 mostCents (c .before .high-first .result) (omega arith))
+returns-4 c =
+    let byte-at = c .before .before .before .before .before .byte-at in
+    let byte-at2 = c .before .before .before .byte-at2 in
+    rw (lead (c .before .before .before .before .before .before), ← (byte-at .ensures), le-leb (byte-at .result) 1 (c .before .before .before .before .if2 .left), ← (byte-at2 .ensures), le-leb (byte-at2 .result) 3 (c .before .before .if3 .left), ← (c .before .high-first .ensures), between-under 1 mostCents (c .before .high-first .result) (omega arith))
 
 returns-5 : tie.Need-returns-5
-returns-5 c = rw (lead (c .before .before .before .before .before .before .before), ← (c .before .before .before .before .before .before .byte-at .ensures), le-leb (c .before .before .before .before .before .before .byte-at .result) 1 (c .before .before .before .before .before .if2 .left), ← (c .before .before .before .before .byte-at2 .ensures), le-leb (c .before .before .before .before .byte-at2 .result) 3 (c .before .before .before .if3 .left), ← (c .before .before .high-first .ensures), between-over 1 mostCents (c .before .before .high-first .result) (c .if5 .taken))
+returns-5 c =
+    let byte-at = c .before .before .before .before .before .before .byte-at in
+    let byte-at2 = c .before .before .before .before .byte-at2 in
+    rw (lead (c .before .before .before .before .before .before .before), ← (byte-at .ensures), le-leb (byte-at .result) 1 (c .before .before .before .before .before .if2 .left), ← (byte-at2 .ensures), le-leb (byte-at2 .result) 3 (c .before .before .before .if3 .left), ← (c .before .before .high-first .ensures), between-over 1 mostCents (c .before .before .high-first .result) (c .if5 .taken))
 
 returns-6 : tie.Need-returns-6
-returns-6 c = rw (lead (c .before .before .before .before .before .before .before), ← (c .before .before .before .before .before .before .byte-at .ensures), le-leb (c .before .before .before .before .before .before .byte-at .result) 1 (c .before .before .before .before .before .if2 .left), ← (c .before .before .before .before .byte-at2 .ensures), le-leb (c .before .before .before .before .byte-at2 .result) 3 (c .before .before .before .if3 .left), ← (c .before .before .high-first .ensures), between-in 1 mostCents (c .before .before .high-first .result) (omega arith) (c .if5 .left))
+returns-6 c =
+    let byte-at = c .before .before .before .before .before .before .byte-at in
+    let byte-at2 = c .before .before .before .before .byte-at2 in
+    rw (lead (c .before .before .before .before .before .before .before), ← (byte-at .ensures), le-leb (byte-at .result) 1 (c .before .before .before .before .before .if2 .left), ← (byte-at2 .ensures), le-leb (byte-at2 .result) 3 (c .before .before .before .if3 .left), ← (c .before .before .high-first .ensures), between-in 1 mostCents (c .before .before .high-first .result) (omega arith) (c .if5 .left))
 
 pub judge-lead-spec : {M : Type 1} → statement M
 judge-lead-spec =

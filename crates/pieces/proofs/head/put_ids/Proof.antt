@@ -13,10 +13,16 @@ put-behind-requires : tie.Need-put-behind-requires
 put-behind-requires c κs = (record { is = c .before .before .before .before .before .before .before .before .before .pre .0; there = omega arith }, omega (arith, c .before .before .before .before .put .ensures .end, c .before .before .before .before .before .before .before .before .before .pre .1))
 
 put-behind-requires-2 : tie.Need-put-behind-requires-2
-put-behind-requires-2 c κs = (record { is = c .before .before .before .before .before .before .before .before .before .before .before .before .before .before .pre .0; there = omega arith }, omega (arith, c .before .before .before .before .put-behind .ensures .1, c .before .before .before .before .before .before .before .before .before .put .ensures .end, c .before .before .before .before .before .before .before .before .before .before .before .before .before .before .pre .1))
+put-behind-requires-2 c κs =
+    let p = c .before .before .before .before .before .before .before .before .before .before .before .before .before .before .pre in
+    let put = c .before .before .before .before .before .before .before .before .before .put in
+    (record { is = p .0; there = omega arith }, omega (arith, c .before .before .before .before .put-behind .ensures .1, put .ensures .end, p .1))
 
 returns : tie.Need-returns
-returns c = ((wrote-then _ _ (c .before .before .before .before .before .before .before .before .before .before .before .before .put .ensures) (wrote-then _ _ (c .before .before .before .before .before .before .before .put-behind .ensures .0) (c .before .before .put-behind2 .ensures .0))), omega (arith, c .before .before .put-behind2 .ensures .1, c .before .before .before .before .before .before .before .put-behind .ensures .1, c .before .before .before .before .before .before .before .before .before .before .before .before .put .ensures .end))
+returns c =
+    let put = c .before .before .before .before .before .before .before .before .before .before .before .before .put in
+    let put-behind = c .before .before .before .before .before .before .before .put-behind in
+    ((wrote-then _ _ (put .ensures) (wrote-then _ _ (put-behind .ensures .0) (c .before .before .put-behind2 .ensures .0))), omega (arith, c .before .before .put-behind2 .ensures .1, put-behind .ensures .1, put .ensures .end))
 
 same-length : tie.Need-same-length
 same-length c = returns c .0 .same

@@ -16,17 +16,30 @@ put-sums-requires : tie.Need-put-sums-requires
 put-sums-requires c κs = omega (arith, c .before .before .before .put .ensures .end, c .before .before .before .before .before .before .before .before .put-ids .ensures .1, c .before .before .before .before .before .before .before .before .before .before .before .before .pre .1)
 
 put-behind-requires : tie.Need-put-behind-requires
-put-behind-requires c κs = (record { is = c .before .before .before .before .before .before .before .before .before .before .before .before .before .before .before .before .before .pre .0; there = omega arith }, omega (arith, c .before .before .before .before .put-sums .ensures .1, c .before .before .before .before .before .before .before .before .put .ensures .end, c .before .before .before .before .before .before .before .before .before .before .before .before .before .put-ids .ensures .1, c .before .before .before .before .before .before .before .before .before .before .before .before .before .before .before .before .before .pre .1))
+put-behind-requires c κs =
+    let p = c .before .before .before .before .before .before .before .before .before .before .before .before .before .before .before .before .before .pre in
+    let put-ids = c .before .before .before .before .before .before .before .before .before .before .before .before .before .put-ids in
+    let put = c .before .before .before .before .before .before .before .before .put in
+    (record { is = p .0; there = omega arith }, omega (arith, c .before .before .before .before .put-sums .ensures .1, put .ensures .end, put-ids .ensures .1, p .1))
 
 put-requires-2 : tie.Need-put-requires-2
-put-requires-2 c κs = omega (arith, c .before .before .before .before .put-behind .ensures .1, c .before .before .before .before .before .before .before .before .before .put-sums .ensures .1, c .before .before .before .before .before .before .before .before .before .before .before .before .before .put .ensures .end, c .before .before .before .before .before .before .before .before .before .before .before .before .before .before .before .before .before .before .put-ids .ensures .1, c .before .before .before .before .before .before .before .before .before .before .before .before .before .before .before .before .before .before .before .before .before .before .pre .1)
+put-requires-2 c κs =
+    let p = c .before .before .before .before .before .before .before .before .before .before .before .before .before .before .before .before .before .before .before .before .before .before .pre in
+    let put-ids = c .before .before .before .before .before .before .before .before .before .before .before .before .before .before .before .before .before .before .put-ids in
+    let put = c .before .before .before .before .before .before .before .before .before .before .before .before .before .put in
+    let put-sums = c .before .before .before .before .before .before .before .before .before .put-sums in
+    omega (arith, c .before .before .before .before .put-behind .ensures .1, put-sums .ensures .1, put .ensures .end, put-ids .ensures .1, p .1)
 
 returns : tie.Need-returns
 unfolding openingBytes
-returns c = (
-  wrote-then _ _ (c .before .before .before .before .before .before .before .before .before .before .before .before .before .before .before .before .before .before .before .before .before .put-ids .ensures .0) (wrote-then _ _ (c .before .before .before .before .before .before .before .before .before .before .before .before .before .before .before .before .put .ensures) (wrote-then _ _ (c .before .before .before .before .before .before .before .before .before .before .before .before .put-sums .ensures .0) (wrote-then _ _ (c .before .before .before .before .before .before .before .put-behind .ensures .0) (c .before .before .put2 .ensures)))),
-  omega (arith, c .before .before .put2 .ensures .end, c .before .before .before .before .before .before .before .put-behind .ensures .1, c .before .before .before .before .before .before .before .before .before .before .before .before .put-sums .ensures .1, c .before .before .before .before .before .before .before .before .before .before .before .before .before .before .before .before .put .ensures .end, c .before .before .before .before .before .before .before .before .before .before .before .before .before .before .before .before .before .before .before .before .before .put-ids .ensures .1),
-)
+returns c =
+    let put-ids = c .before .before .before .before .before .before .before .before .before .before .before .before .before .before .before .before .before .before .before .before .before .put-ids in
+    let put = c .before .before .before .before .before .before .before .before .before .before .before .before .before .before .before .before .put in
+    let put-sums = c .before .before .before .before .before .before .before .before .before .before .before .before .put-sums in
+    let put-behind = c .before .before .before .before .before .before .before .put-behind in (
+      wrote-then _ _ (put-ids .ensures .0) (wrote-then _ _ (put .ensures) (wrote-then _ _ (put-sums .ensures .0) (wrote-then _ _ (put-behind .ensures .0) (c .before .before .put2 .ensures)))),
+      omega (arith, c .before .before .put2 .ensures .end, put-behind .ensures .1, put-sums .ensures .1, put .ensures .end, put-ids .ensures .1),
+    )
 
 same-length : tie.Need-same-length
 same-length c = returns c .0 .same

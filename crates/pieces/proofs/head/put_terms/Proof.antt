@@ -21,22 +21,41 @@ byte-at-requires-2 : tie.Need-byte-at-requires-2
 byte-at-requires-2 c κs = search needs
 
 put-word-requires-2 : tie.Need-put-word-requires-2
-put-word-requires-2 c κs = omega (arith, c .before .before .before .before .before .put .ensures .end, c .before .before .before .before .before .before .before .before .before .before .put-word .ensures .1, c .before .before .before .before .before .before .before .before .before .before .before .before .before .before .before .before .pre .1)
+put-word-requires-2 c κs =
+    let p = c .before .before .before .before .before .before .before .before .before .before .before .before .before .before .before .before .pre in
+    let put-word = c .before .before .before .before .before .before .before .before .before .before .put-word in
+    omega (arith, c .before .before .before .before .before .put .ensures .end, put-word .ensures .1, p .1)
 
 put-behind-requires : tie.Need-put-behind-requires
-put-behind-requires c κs = (record { is = c .before .before .before .before .before .before .before .before .before .before .before .before .before .before .before .before .before .before .before .before .before .pre .0; there = omega arith }, omega (arith, c .before .before .before .before .put-word2 .ensures .1, c .before .before .before .before .before .before .before .before .before .before .put .ensures .end, c .before .before .before .before .before .before .before .before .before .before .before .before .before .before .before .put-word .ensures .1, c .before .before .before .before .before .before .before .before .before .before .before .before .before .before .before .before .before .before .before .before .before .pre .1))
+put-behind-requires c κs =
+    let p = c .before .before .before .before .before .before .before .before .before .before .before .before .before .before .before .before .before .before .before .before .before .pre in
+    let put-word = c .before .before .before .before .before .before .before .before .before .before .before .before .before .before .before .put-word in
+    let put = c .before .before .before .before .before .before .before .before .before .before .put in
+    (record { is = p .0; there = omega arith }, omega (arith, c .before .before .before .before .put-word2 .ensures .1, put .ensures .end, put-word .ensures .1, p .1))
 
 put-requires-2 : tie.Need-put-requires-2
-put-requires-2 c κs = omega (arith, c .before .before .before .before .put-behind .ensures .1, c .before .before .before .before .before .before .before .before .before .put-word2 .ensures .1, c .before .before .before .before .before .before .before .before .before .before .before .before .before .before .before .put .ensures .end, c .before .before .before .before .before .before .before .before .before .before .before .before .before .before .before .before .before .before .before .before .put-word .ensures .1, c .before .before .before .before .before .before .before .before .before .before .before .before .before .before .before .before .before .before .before .before .before .before .before .before .before .before .pre .1)
+put-requires-2 c κs =
+    let p = c .before .before .before .before .before .before .before .before .before .before .before .before .before .before .before .before .before .before .before .before .before .before .before .before .before .before .pre in
+    let put-word = c .before .before .before .before .before .before .before .before .before .before .before .before .before .before .before .before .before .before .before .before .put-word in
+    let put = c .before .before .before .before .before .before .before .before .before .before .before .before .before .before .before .put in
+    let put-word2 = c .before .before .before .before .before .before .before .before .before .put-word2 in
+    omega (arith, c .before .before .before .before .put-behind .ensures .1, put-word2 .ensures .1, put .ensures .end, put-word .ensures .1, p .1)
 
 returns : tie.Need-returns
 returns c =
-    let s = unhex (c .before .before .before .before .before .before .before .before .before .before .before .before .before .before .before .before .before .before .before .before .before .before .before .before .before .before .before .before .before .args .line .now) in
-    let scheme = c .before .before .before .before .before .before .before .before .before .before .before .before .before .before .before .before .before .before .before .before .before .before .before .before .byte-at .ensures ∙ sym (lead-at s 0 (omega arith)) in
-    let sequence = c .before .before .before .before .before .before .before .before .before .before .before .before .before .byte-at2 .ensures ∙ sym (lead-at s 1 (omega arith)) in (
-      wrote-then _ _ (rw (scheme, scheme-word) at (c .before .before .before .before .before .before .before .before .before .before .before .before .before .before .before .before .before .before .before .before .before .before .before .put-word .ensures .0))
-          (wrote-then _ _ (c .before .before .before .before .before .before .before .before .before .before .before .before .before .before .before .before .before .before .put .ensures) (wrote-then _ _ (rw (sequence, sequence-word) at (c .before .before .before .before .before .before .before .before .before .before .before .before .put-word2 .ensures .0)) (wrote-then _ _ (c .before .before .before .before .before .before .before .put-behind .ensures .0) (c .before .before .put2 .ensures)))),
-      omega (arith, c .before .before .put2 .ensures .end, c .before .before .before .before .before .before .before .put-behind .ensures .1, c .before .before .before .before .before .before .before .before .before .before .before .before .put-word2 .ensures .1, c .before .before .before .before .before .before .before .before .before .before .before .before .before .before .before .before .before .before .put .ensures .end, c .before .before .before .before .before .before .before .before .before .before .before .before .before .before .before .before .before .before .before .before .before .before .before .put-word .ensures .1),
+    let a = c .before .before .before .before .before .before .before .before .before .before .before .before .before .before .before .before .before .before .before .before .before .before .before .before .before .before .before .before .before .args in
+    let byte-at = c .before .before .before .before .before .before .before .before .before .before .before .before .before .before .before .before .before .before .before .before .before .before .before .before .byte-at in
+    let put-word = c .before .before .before .before .before .before .before .before .before .before .before .before .before .before .before .before .before .before .before .before .before .before .before .put-word in
+    let put = c .before .before .before .before .before .before .before .before .before .before .before .before .before .before .before .before .before .before .put in
+    let byte-at2 = c .before .before .before .before .before .before .before .before .before .before .before .before .before .byte-at2 in
+    let put-word2 = c .before .before .before .before .before .before .before .before .before .before .before .before .put-word2 in
+    let put-behind = c .before .before .before .before .before .before .before .put-behind in
+    let s = unhex (a .line .now) in
+    let scheme = byte-at .ensures ∙ sym (lead-at s 0 (omega arith)) in
+    let sequence = byte-at2 .ensures ∙ sym (lead-at s 1 (omega arith)) in (
+      wrote-then _ _ (rw (scheme, scheme-word) at (put-word .ensures .0))
+          (wrote-then _ _ (put .ensures) (wrote-then _ _ (rw (sequence, sequence-word) at (put-word2 .ensures .0)) (wrote-then _ _ (put-behind .ensures .0) (c .before .before .put2 .ensures)))),
+      omega (arith, c .before .before .put2 .ensures .end, put-behind .ensures .1, put-word2 .ensures .1, put .ensures .end, put-word .ensures .1),
     )
 
 same-length : tie.Need-same-length

@@ -42,12 +42,16 @@ same-length c = search needs
 
 returns : tie.Need-returns
 returns c =
+    let count-all = c .before .before .before .before .before .before .before .before .before .before .before .before .before .before .before .before .count-all in
+    let cents-all = c .before .before .before .before .before .before .before .before .before .before .before .before .before .before .before .cents-all in
+    let line-end = c .before .before .before .before .before .before .before .before .before .before .before .before .before .before .line-end in
+    let put-opening = c .before .before .before .before .before .before .before .before .before .before .before .put-opening in
     let x = c .before .before .before .before .before .before .before .before .before .before .before .before .before .before .before .before .before .before .before .before .before in
     let s = x .args .list .now in
     let ls = x .args .labels .now in
     let m = x .args .batches in
-    message-join (creditorAt s) (batchesFrom 0 m ls (listed s)) _ _ (c .before .before .before .before .before .before .before .before .before .before .before .before .before .before .before .before .count-all .ensures ∙ concat-count ls (listed s) m (x .pre .ready .count)) (c .before .before .before .before .before .before .before .before .before .before .before .before .before .before .before .cents-all .ensures ∙ concat-cents ls (listed s) m)
-    (wrote-then _ _ (rw (part-is s 0 _ (c .before .before .before .before .before .before .before .before .before .before .before .before .before .before .line-end .ensures .0)) at (c .before .before .before .before .before .before .before .before .before .before .before .put-opening .ensures .0)) (wrote-then _ _ (c .before .before .before .before .before .before .before .put-batches .ensures .0) (c .before .before .put .ensures)))
+    message-join (creditorAt s) (batchesFrom 0 m ls (listed s)) _ _ (count-all .ensures ∙ concat-count ls (listed s) m (x .pre .ready .count)) (cents-all .ensures ∙ concat-cents ls (listed s) m)
+    (wrote-then _ _ (rw (part-is s 0 _ (line-end .ensures .0)) at (put-opening .ensures .0)) (wrote-then _ _ (c .before .before .before .before .before .before .before .put-batches .ensures .0) (c .before .before .put .ensures)))
 
 pub put-message-spec : {M : Type 1} → statement M
 put-message-spec =
