@@ -1,7 +1,7 @@
 -- THE VALUES OF A GOOD LIST, FOUND BY THE STARTS OF ITS LINES, and its labels, for whoever reads it line by line.
 --   creditor-found, creditor-framed   the line at 0 is the creditor's, and holds its frame
 --   inside, collection-found, collection-framed, collection-good   line i + 1 starts within the list; it is collection i's, and holds its frame; the values are good
---   labels-number, label-some         there is a label for each collection; each label below the number needed is some collection's
+--   label-some                        each label below the number needed is some collection's
 use Prim.Native.Nat.{ℕ, _+_, _≤_, _<_}
 use native.Mathlib.Omega.{arith}
 use mathlib.Core.Bool.{true}
@@ -18,7 +18,6 @@ use Rattle.frames.proofs.Cuts.{by-further}
 use Rattle.frames.proofs.Starts.{line-at, start-within}
 use Rattle.bundle.specs.Labels.{needOf, labelsOf}
 use Rattle.bundle.proofs.Codes.{all-at, label-used}
-use Rattle.bundle.proofs.Loops.{labels-length}
 use Rattle.daylist.specs.declared.JudgedList.the-variants.{Good}
 use Rattle.daylist.specs.Stages.{judgedList}
 use Rattle.daylist.proofs.Goods.{GoodList, good-list, frames-each}
@@ -26,7 +25,7 @@ use Rattle.collections.specs.Listed.{Collection, sameTerms, collectionOf
 use Rattle.collections.specs.Numbers.{termsNumber, numbersOf}
 use Rattle.collections.specs.Good.{GoodTerms, GoodCollection}
 use Rattle.collections.proofs.Terms.{terms-decide, same-number}
-use Rattle.collections.proofs.Lines.{none, numbers-length, collection-at}
+use Rattle.collections.proofs.Lines.{none, collection-at}
 use Rattle.collections.proofs.Goods.{framed-line, good-collections, good-number, good-terms}
 
 module _ (s : Bytes) (c n : ℕ) (e : judgedList s c ≡ Good n) where
@@ -78,9 +77,6 @@ module _ (s : Bytes) (c n : ℕ) (e : judgedList s c ≡ Good n) where
     collection-good d = all-at GoodCollection d (listed s) (good-collections s c n e) i (omega (arith, good-number s c n e))
 
   -- ─── the labels ───
-
-  pub labels-number : length (labelsOf c (numbersOf s)) ≡ n
-  labels-number = omega (arith, labels-length c (numbersOf s), numbers-length s, list)
 
   pub label-some : (k : ℕ) → k < needOf c (numbersOf s) → 1 ≤ count (eqb k) (labelsOf c (numbersOf s))
   label-some = label-used (λ (x : Collection). x .terms) sameTerms terms-decide (λ x. GoodTerms (x .terms)) (λ x. termsNumber (x .terms))

@@ -1,7 +1,7 @@
 -- WHAT ENDS, arm by arm, in plain variables: a transaction that is settled, a batch that is shut.
 --   slip-lent        a slip: two numbers, and the texts in the stretch behind them
 --   slip-columns     the numbers of a slip as columns of the row
---   settled-none, settled-closed, settled-some   no batch is open; no transaction; one        add-fits   it can be added
+--   settled-closed, settled-some   no transaction is open; one        add-fits   it can be added
 --   batch-is         the batch that ends, field by field
 --   noted-count, noted-sum, noted-none   its first fault
 --   terms-small, row-columns   its row as columns of the row of numbers
@@ -46,9 +46,6 @@ slip-columns ns k w ys e f = rw (e, f) refl
 -- ─── the open transaction ───
 
 module _ (ns : List ℕ) (y : Tally) (s : List ℕ) where
-  pub settled-none : y .batches ≡ 0 → (y ≡ settledTally (stateOf ns y s [])) × (s ≡ settledSlips (stateOf ns y s []))
-  settled-none z = (rw z refl, rw z refl)
-
   pub settled-closed : (m : ℕ) → m ≡ getD ns (4 * part.transaction + 0) 0 → m ≡ 0 → (y ≡ settledTally (stateOf ns y s [])) × (s ≡ settledSlips (stateOf ns y s []))
   unfolding rowOf
   settled-closed m e z = go (y .batches) (getD ns (4 * part.transaction + 0) 0) (sym e ∙ z)

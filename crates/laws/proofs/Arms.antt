@@ -1,10 +1,8 @@
 -- THE ARMS OF A MATCH ON A NUMBER, each of which has its entry of a table.
 --   arm                the entry at the number that an arm is for is the entry at the number that is matched
---   Missed, missed-le   a number that is none of the first n is at least n
---   last-key            and n, if it is below n + 1
 --   NoneOf, others      of a number that no arm names: what each such number below n is, by a test that is computed
 --   past                an entry past the end of a list
-use Prim.Native.Nat.{ℕ, zero, suc, _+_, _<_, _≤_, zero-le}
+use Prim.Native.Nat.{ℕ, zero, suc, _<_, _≤_}
 use native.Mathlib.Omega.{arith}
 use mathlib.Core.Bool.{Bool, true, false, _||_}
 use mathlib.Core.List.{List, [], _∷_}
@@ -15,21 +13,6 @@ use Rattle.laws.proofs.Below.{every, below}
 
 pub arm : {A : Type 0} (entry : ℕ → A) {x k : ℕ} → x ≡ k → entry k ≡ entry x
 arm entry e = ap entry (sym e)
-
--- x is none of the first n numbers
-abbrev pub Missed : ℕ → ℕ → Type 0
-Missed zero x = Unit
-Missed (suc n) x = Missed n x × (x ≡ n → ⊥)
-
-pub missed-le : (n x : ℕ) → Missed n x → n ≤ x
-missed-le zero x m = zero-le
-missed-le (suc n) x m =
-    let h : n ≤ x = missed-le n x (m .0) in
-    let k : x ≡ n → ⊥ = m .1 in
-    omega arith
-
-pub last-key : (n x : ℕ) → x < n + 1 → Missed n x → x ≡ n
-last-key n x h m = omega (arith, missed-le n x m)
 
 -- x is none of the numbers ks, the last arm's first
 abbrev pub NoneOf : List ℕ → ℕ → Type 0

@@ -1,3 +1,2 @@
--- Tells   an event told        Cases   the definitions at work on the message of the examples
-pub mod Tells
+-- Cases   the definitions at work on the message of the examples
 pub mod Cases

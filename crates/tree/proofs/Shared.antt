@@ -50,9 +50,6 @@ pub shares-append : (t s w : Bytes) (n : ℕ) → Shares s w n → Shares (t ++ 
 shares-append [] s w n o = rw zero-add o
 shares-append (a ∷ t) s w n o = rw suc-add (refl, shares-append t s w n o)
 
-pub cons-tail : (a b : ℕ) (s w : Bytes) → a ∷ s ≡ b ∷ w → s ≡ w
-cons-tail a b s w e = ap tail e
-
 pub append-cancel : (t s w : Bytes) → t ++ s ≡ t ++ w → s ≡ w
 append-cancel [] s w e = e
 append-cancel (a ∷ t) s w e = append-cancel t s w (ap tail e)

@@ -4,7 +4,6 @@
 --   amount-good      the amount of n cents, from 1 to the most
 --   batch-id-good    a batch's id
 --   scheme-good, sequence-good    the words of a scheme and of a sequence
---   words-good       the fixed words
 --   decimal-length, euros-length  how long a number below a power of ten is
 use Prim.Native.Nat.{ℕ, zero, suc, _+_, _-_, _*_, _/_, _%_, _^_, _≤_, _<_}
 use native.Mathlib.Nat.{mod-lt, mod-eq-of-lt, div-add-mod', div-lt-iff-lt-mul, div-div-eq-div-mul, pow-suc}
@@ -16,13 +15,13 @@ use lib.Dec.{T, eqb}
 use lib.ListN.{length, take, drop, length-append}
 use lib.Seq.{take-at, drop-at}
 use borrow.Author.Tests.{lt-ltb, ne-eqb}
-use Rattle.laws.specs.Bytes.{Bytes, ascii, all, span}
+use Rattle.laws.specs.Bytes.{Bytes, all, span}
 use Rattle.laws.proofs.Tests.{true-T, and-l, and-r, T-true}
 use Rattle.marks.proofs.Classes.{letter-within}
 use Rattle.marks.specs.Marks.{letter, digit, value, valueFrom}
 use Rattle.profile.specs.Limits.{mostCents}
 use Rattle.text.specs.declared.Judged.the-variants.{Good}
-use Rattle.text.specs.Rules.{count, hundredths, decimals, inEuros, cents, sum, amount, identifier, method, booking, sepa, scheme, sequence, charges, notProvided}
+use Rattle.text.specs.Rules.{count, hundredths, decimals, inEuros, cents, sum, amount, identifier, scheme, sequence}
 use Rattle.text.proofs.Musts.{between-in}
 use Rattle.put.specs.Numerals.{lastDigit, decimalOf, decimal, euros, batchId}
 use Rattle.written.specs.Written.{schemeWord, sequenceWord}
@@ -140,6 +139,3 @@ sequence-good (suc zero) h = refl
 sequence-good (suc (suc zero)) h = refl
 sequence-good (suc (suc (suc zero))) h = refl
 sequence-good (suc (suc (suc (suc n)))) h = absurd (omega arith)
-
-pub words-good : (method (ascii "DD") ≡ Good 0) × ((booking (ascii "true") ≡ Good 0) × ((sepa (ascii "SEPA") ≡ Good 0) × ((charges (ascii "SLEV") ≡ Good 0) × (notProvided (ascii "NOTPROVIDED") ≡ Good 0))))
-words-good = (refl, (refl, (refl, (refl, refl))))
