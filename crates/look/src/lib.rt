@@ -1,7 +1,7 @@
 // One look over a text of letters, with the rank of each byte at hand in a lent table: it tells a good text and its end at once. Of every other text it tells
 // nothing, and its rule judges it.
 ghost use mathlib.Core.Path.{_≡_};
-ghost use Prim.Native.Nat.{_+_, _≤_, _<_};
+ghost use Prim.Native.Nat.{_+_, _≤_};
 ghost use lib.Dec.{T};
 ghost use lib.ListN.{length, drop};
 ghost use Rattle.laws.specs.Bytes.{span};
@@ -17,19 +17,12 @@ pub enum Look {
     Unsure,
 }
 
-// A byte as a number.
-fn wide(b: u8) -> usize
-    ensures { λ r. ⌜ (r ≡ b) × (r < 256) ⌝ }
-{
-    b as usize
-}
-
 // A byte whose rank is `least` at least. The table `t` begins with the ranks of all bytes.
 fn is_ranked(t: &[u8], c: u8, least: u8) -> bool
     requires { ⌜ T (ranked (now t)) ⌝ }
     ensures { λ r. ⌜ r ≡ atLeast least c ⌝ }
 {
-    let k = wide(c);
+    let k = marks::index(c);
     least <= t[k]
 }
 

@@ -193,9 +193,16 @@ pub fn has_shape(text: &[u8], pattern: &[u8]) -> bool
 
 // A byte as a number.
 pub fn wide(c: u8) -> u64
-    ensures { λ r. ⌜ r ≡ c ⌝ }
+    ensures { λ r. ⌜ (r ≡ c) × (r < 256) ⌝ }
 {
     c as u64
+}
+
+// A byte as an index.
+pub fn index(c: u8) -> usize
+    ensures { λ r. ⌜ (r ≡ c) × (r < 256) ⌝ }
+{
+    c as usize
 }
 
 // The number that at most 15 digits spell.

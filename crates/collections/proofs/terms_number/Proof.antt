@@ -44,7 +44,7 @@ add-result-2 c = record { fits = omega (arith, under c) }
 returns : tie.Need-returns
 returns c =
     number-bytes (unhex (c .before .before .before .before .before .before .args .line .now)) _ _ _ (c .before .before .before .before .day-number .ensures)
-    (c .before .before .wide .ensures ∙ c .before .before .before .byte-at .ensures) (c .wide2 .ensures ∙ c .before .byte-at2 .ensures)
+    (c .before .before .wide .ensures .0 ∙ c .before .before .before .byte-at .ensures) (c .wide2 .ensures .0 ∙ c .before .byte-at2 .ensures)
 
 pub terms-number-spec : {M : Type 1} → statement M
 terms-number-spec =

@@ -34,12 +34,12 @@ wide-requires : tie.Need-wide-requires Inv-loop μ-loop
 wide-requires c κs = search needs
 
 sub-v : tie.Need-sub-v Inv-loop μ-loop
-sub-v c = rw (c .wide .ensures) (between-low 48 57 _ (at-i c))
+sub-v c = rw (c .wide .ensures .0) (between-low 48 57 _ (at-i c))
 
 add-v : tie.Need-add-v Inv-loop μ-loop
 add-v c =
     let l = c .before .before .before .loop in
-    omega (arith, power-under 10 (l .v) (l .i) 15 (omega arith) (l .inv .0) (omega arith), c .wide .ensures, c .before .shared-slice-known2 .given (l .i))
+    omega (arith, power-under 10 (l .v) (l .i) 15 (omega arith) (l .inv .0) (omega arith), c .wide .ensures .0, c .before .shared-slice-known2 .given (l .i))
 
 add-i : tie.Need-add-i Inv-loop μ-loop
 add-i c = search needs
@@ -50,7 +50,7 @@ loop-less c = search needs
 loop-again : tie.Need-loop-again Inv-loop μ-loop
 loop-again c =
     let l = c .before .before .before .loop in
-    rw (c .wide .ensures) (digit-more (l .v) (l .i) (l .inv .0) _ (at-i c), l .inv .1 ∙ value-go (l .v) _ (l .i) (c .before .before .loop-test .taken))
+    rw (c .wide .ensures .0) (digit-more (l .v) (l .i) (l .inv .0) _ (at-i c), l .inv .1 ∙ value-go (l .v) _ (l .i) (c .before .before .loop-test .taken))
 
 returns : tie.Need-returns Inv-loop μ-loop
 returns c = sym (c .before .loop .inv .1 ∙ value-end _ _ _ (c .loop-test .left))

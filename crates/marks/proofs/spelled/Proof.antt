@@ -30,7 +30,7 @@ next :
     (let l = c .before .before .before .before .loop in let x = getD (c .before .before .before .before .before .before .args .text .now) (l .i) 0 in c .if1 .v ≡ l .v * shift x + letterValue x)
 next c =
     elim (c .if1 .came) [
-      | inl w ↦ let d = sym (c .before .is-digit .ensures) ∙ w .0 .taken in w .2 ∙ rw (w .1 .ensures, shift-digit _ d, value-digit _ d)
+      | inl w ↦ let d = sym (c .before .is-digit .ensures) ∙ w .0 .taken in w .2 ∙ rw (w .1 .ensures .0, shift-digit _ d, value-digit _ d)
       | inr w ↦ w .2 ∙ rw (w .1 .ensures, shift-letter _ (sym (c .before .is-digit .ensures) ∙ w .0 .left))
     ]
 
@@ -52,10 +52,10 @@ wide-requires c κs = search needs
 sub-v : tie.Need-sub-v Inv-loop μ-loop
 sub-v c =
     let x = getD (c .before .before .before .before .before .before .before .args .text .now) (c .before .before .before .before .before .loop .i) 0 in
-    omega (arith, c .wide .ensures, between-low 48 57 x (sym (c .before .before .is-digit .ensures) ∙ c .before .if1 .taken))
+    omega (arith, c .wide .ensures .0, between-low 48 57 x (sym (c .before .before .is-digit .ensures) ∙ c .before .if1 .taken))
 
 add-v : tie.Need-add-v Inv-loop μ-loop
-add-v c = omega (arith, c .wide .ensures, room (c .before .before))
+add-v c = omega (arith, c .wide .ensures .0, room (c .before .before))
 
 mul-v-2 : tie.Need-mul-v-2 Inv-loop μ-loop
 mul-v-2 c = omega (arith, room (c .before))

@@ -41,7 +41,7 @@ wide-requires : tie.Need-wide-requires Inv-loop μ-loop
 wide-requires c κs = search needs
 
 add-v : tie.Need-add-v Inv-loop μ-loop
-add-v c = let l = c .before .before .before .loop in let x = c .before .before .before .before .before .before .args in omega (arith, c .before .before .before .before .least .ensures, c .wide .ensures, high-under (l .v) (l .at - x .from) (l .inv .0 .1) 6 (omega (arith, c .before .before .before .before .least .ensures, c .before .before .before .before .before .before .pre)))
+add-v c = let l = c .before .before .before .loop in let x = c .before .before .before .before .before .before .args in omega (arith, c .before .before .before .before .least .ensures, c .wide .ensures .0, high-under (l .v) (l .at - x .from) (l .inv .0 .1) 6 (omega (arith, c .before .before .before .before .least .ensures, c .before .before .before .before .before .before .pre)))
 
 add-at : tie.Need-add-at Inv-loop μ-loop
 add-at c = search needs
@@ -54,9 +54,9 @@ loop-again c =
     let l = c .before .before .before .loop in
     let x = c .before .before .before .before .before .before .args in
     let s = unhex (x .line .now) in
-    let b : c .wide .result ≡ getD s (l .at) 0 = c .wide .ensures ∙ c .before .byte-at .ensures in
+    let b : c .wide .result ≡ getD s (l .at) 0 = c .wide .ensures .0 ∙ c .before .byte-at .ensures in
     let d : l .at + 1 - x .from ≡ l .at - x .from + 1 = omega arith in (
-      (omega arith, rw d (high-more (l .v) (l .at - x .from) (l .inv .0 .1) (c .wide .result) (omega (arith, c .wide .ensures)))),
+      (omega arith, rw d (high-more (l .v) (l .at - x .from) (l .inv .0 .1) (c .wide .result) (omega (arith, c .wide .ensures .0)))),
       l .inv .1 ∙ rw b (high-go (l .v) s (l .at) (c .before .before .before .before .least .result) (c .before .before .loop-test .taken) (omega (arith, c .before .before .before .before .least .ensures, unhex-length (x .line .now)))),
     )
 
