@@ -19,6 +19,7 @@ use heard::row;
 use profile::Batch;
 use profile::ControlSum;
 use profile::Profile;
+use profile::Slip;
 use profile::Tally;
 use profile::Totals;
 use text::Judged;
@@ -54,10 +55,10 @@ fn fill_slip(slip: &mut [u64], heard: &[u64], k: u64)
         Part::DEBTOR_ACCOUNT,
         Part::REMITTANCE,
     ];
-    slip[0] = k;
-    slip[1] = row::number(heard, Part::AMOUNT, Word::WORTH);
+    slip[Slip::BATCH] = k;
+    slip[Slip::CENTS] = row::number(heard, Part::AMOUNT, Word::WORTH);
     fill_columns(
-        &mut slip[2..Profile::SLIP],
+        &mut slip[Slip::TEXTS..Profile::SLIP],
         heard,
         &texts,
         Word::START,
@@ -137,14 +138,20 @@ fn fill_row(row: &mut [u64], heard: &[u64], tally: Tally)
     requires { ⌜ (length (now row) ≡ 8) × ((length (now heard) ≡ heardLength) × Within (mostBytes + 1) (stateOf (now heard) tally [] [])) ⌝ }
     ensures { λ _. ⌜ now (row .exit) ≡ rowNumbers (rowOf (now (heard .entry)) .said) tally ⌝ }
 {
-    let declared = [Part::BATCH_COUNT, Part::BATCH_SUM];
+    let parts = [Part::BATCH_COUNT, Part::BATCH_SUM];
     let scheme = row::number(heard, Part::SCHEME, Word::WORTH);
     let sequence = row::number(heard, Part::SEQUENCE, Word::WORTH);
-    row[0] = tally.transactions.0;
-    row[1] = tally.count.0;
-    row[2] = tally.sum.0;
-    row[7] = 4 * scheme + sequence;
-    fill_columns(&mut row[3..7], heard, &declared, Word::MARK, Word::WORTH);
+    row[Batch::BEFORE] = tally.transactions.0;
+    row[Batch::COUNT] = tally.count.0;
+    row[Batch::CENTS] = tally.sum.0;
+    row[Batch::TERMS] = 4 * scheme + sequence;
+    fill_columns(
+        &mut row[Batch::HAS_COUNT..Batch::TERMS],
+        heard,
+        &parts,
+        Word::MARK,
+        Word::WORTH,
+    );
 }
 
 // The row of the open batch, behind those before it, where there is room.

@@ -55,6 +55,42 @@ pub struct Batch {
     pub declared_sum: DeclaredSum,
 }
 
+// Where its numbers stand in its row of the batch table.
+impl Batch {
+    // The number of transactions before it.
+    pub const BEFORE: usize = 0;
+
+    pub const COUNT: usize = 1;
+
+    pub const CENTS: usize = 2;
+
+    // 1 or 0 for a declared count, and that count or 0.
+    pub const HAS_COUNT: usize = 3;
+
+    pub const DECLARED_COUNT: usize = 4;
+
+    // The same of its sum.
+    pub const HAS_SUM: usize = 5;
+
+    pub const DECLARED_SUM: usize = 6;
+
+    // 4 × scheme + sequence.
+    pub const TERMS: usize = 7;
+}
+
+// Where the numbers of a transaction stand in its slip.
+pub struct Slip(pub usize);
+
+impl Slip {
+    // Its batch, from 1.
+    pub const BATCH: usize = 0;
+
+    pub const CENTS: usize = 1;
+
+    // From here on start and length of each text.
+    pub const TEXTS: usize = 2;
+}
+
 // What an accepted message answers: its batches, transactions and cents.
 pub struct Totals {
     pub batches: u64,

@@ -5,6 +5,7 @@ use answer::Checked;
 use prints::print;
 use prints::print_number;
 use prints::print_refused;
+use profile::Batch;
 use profile::Profile;
 use profile::Refusal;
 use profile::Totals;
@@ -24,10 +25,10 @@ fn print_batch(k: u64, row: &[u64])
 {
     print(b"B");
     print_number(k);
-    print_number(row[1]);
-    print_number(row[2]);
-    print_declared(row[3], row[4]);
-    print_declared(row[5], row[6]);
+    print_number(row[Batch::COUNT]);
+    print_number(row[Batch::CENTS]);
+    print_declared(row[Batch::HAS_COUNT], row[Batch::DECLARED_COUNT]);
+    print_declared(row[Batch::HAS_SUM], row[Batch::DECLARED_SUM]);
     print(b"\n");
 }
 
