@@ -69,12 +69,12 @@ module _ (t : Bytes) (e : ℕ) (k : Known t e) (rule : Rule) (q : kindOf (cell t
     toldText = message.told s (event (cell t e 5) (Text rule) at start (r .end - start))
 
     text-heard : (y : Tally) (sl rw : List ℕ) → step (stateOf ns y sl rw) toldText ≡ stateOf ms y sl rw
-    text-heard y sl rw = sym (ap (λ (w : Row). stateWith w y sl rw) (r .said) ∙ text-step (rowOf ns) toldText y sl rw plain-part)
+    text-heard y sl rw = sym (ap (λ (w : Row). stateWith w y sl rw) (r .text .said) ∙ text-step (rowOf ns) toldText y sl rw plain-part)
 
     text-element : (y : Tally) (sl rw : List ℕ) (c : Elem) → T (holdsElem t e c) → gone s x (stateOf ms y sl rw) ≡ oneAt t s (stateOf ns y sl rw) c at
     unfolding stepOf
     text-element y sl rw c h =
-        element-read t s e at start (r .end) (cell t e 5) (Text rule) (stateOf ns y sl rw) (stateOf ms y sl rw) (gone s x (stateOf ms y sl rw)) refl (sym q) behind (r .run) (text-heard y sl rw) kids c h
+        element-read t s e at start (r .end) (cell t e 5) (Text rule) (stateOf ns y sl rw) (stateOf ms y sl rw) (gone s x (stateOf ms y sl rw)) refl (sym q) behind (r .text .run) (text-heard y sl rw) kids c h
       where
         kids : (d : Elem) → T (holdsElem t e d) → gone s x (stateOf ms y sl rw) ≡ kidsFrom t s (stateOf ms y sl rw) d (r .end)
         kids d u =
@@ -94,7 +94,7 @@ module _ (t : Bytes) (e : ℕ) (k : Known t e) (rule : Rule) (q : kindOf (cell t
     pub text-fine : (y : Tally) (p : ℕ) → at ≤ length s → Within at (stateOf ns y [] []) → x ≡ To p → (at < p) × ((p ≤ length s) × Within p (stateOf ms y [] []))
     text-fine y p m w z =
         let l : at < start = omega (arith, behind, open-some t e (known-in t e k)) in
-        let u = run-in inText s start (r .end) (whole-in s at (openTag t e) start m o) (r .run) in
+        let u = run-in inText s start (r .end) (whole-in s at (openTag t e) start m o) (r .text .run) in
         let c = closed-in t s e (r .end) (r .end) p x k (u .1) (r .close) z in
         let v = event (cell t e 5) (Text rule) at start (r .end - start) in
         let b : Within start (stateOf ms y [] []) = subst (Within start) (text-heard y [] []) (within-step at start (stateOf ns y [] []) toldText w l (told-sane s v (fit at start (r .end - start)))) in

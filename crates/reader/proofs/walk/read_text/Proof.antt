@@ -1,14 +1,12 @@
 -- `reader::walk::read_text` meets its contract: the text is heard up to its end, and its closing tag looked for there.
 use Prim.Native.Nat.{ℕ, _-_}
 use native.Mathlib.Omega.{arith}
-use mathlib.Core.Path.{ap, sym, subst, _∙_}
-use lib.ListN.{take, drop}
-use Rattle.text.specs.Rules as rules
+use mathlib.Core.Path.{sym, subst}
 use Rattle.tree.specs.Form.{inText}
-use Rattle.heard.specs.Row.{rowOf}
-use Rattle.events.specs.Events.{toldRow, Plain}
+use Rattle.events.specs.Events.{Plain}
 use Rattle.scan.proofs.Scans.{run-in}
 use Rattle.plan.proofs.Held.{known-in}
+use Rattle.reader.specs.Told.{TextHeard}
 use Rattle.reader.proofs.Elements.{plain-part}
 use borrow.Author.Needs.{needs}
 use Rattle.reader.proofs.walk.read_text.Statement.{statement}
@@ -37,10 +35,7 @@ returns c =
     let h = c .before .before .before .hear-text in
     record {
       end = h .result;
-      run = h .ensures .run;
-      said =
-          h .ensures .said
-          ∙ ap (λ (k : ℕ). toldRow (rowOf (a .heard .now)) k (a .start) (h .result - a .start) (rules.judged (a .rule) (take (h .result - a .start) (drop (a .start) (a .s .now))))) (c .before .before .before .before .before .number .ensures .0);
+      text = subst (λ (k : ℕ). TextHeard (a .s .now) (a .rule) k (a .start) (h .result) (a .heard .now) (h .last .1 .1 .1 .1 .1 .0)) (c .before .before .before .before .before .number .ensures .0) (h .ensures);
       close = c .read-close .ensures;
     }
 
