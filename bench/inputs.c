@@ -11,7 +11,7 @@ static unsigned below(unsigned bound) {
     return (unsigned)(state >> 33) % bound;
 }
 
-/* A text of letters, and behind it a 0. */
+/* A text of letters, and after it a 0. */
 static const char *letters(unsigned least, unsigned most) {
     static const char SET[] = "abcdefghijklmnopqrstuvwxyz ABCDEFGHIJKLMNOPQRSTUVWXYZ 0123456789 -?:().,'+";
     static char text[MOST_REMITTANCE + 1];
@@ -150,7 +150,7 @@ static uint64_t transaction(void) {
 enum { OF_A_BATCH = 100 };
 struct totals { uint64_t count, cents; };
 
-/* A message of so many transactions that declares some totals, the header's behind those of the batches; gives the exact ones in
+/* A message of so many transactions that declares some totals, the header's after those of the batches; gives the exact ones in
    their place. */
 static void message(uint8_t *into, unsigned transactions, int pretty, struct totals *totals, unsigned batches) {
     state = 1;

@@ -36,14 +36,14 @@ struct reading {
 };
 
 /* ---- The form
-   A function for an element takes the byte behind its opening tag and gives the one behind its closing tag; a function for a text
+   A function for an element takes the byte after its opening tag and gives the one after its closing tag; a function for a text
    takes its start and gives its end. Either gives null at a fault of the form. */
 
 static inline int stands(const uint8_t *p, const uint8_t *end, const char *s, size_t n) {
     return (size_t)(end - p) >= n && memcmp(p, s, n) == 0;
 }
 
-/* None of the tags stands here: the fault is behind the longest beginning that is shared with one of them. */
+/* None of the tags stands here: the fault is after the longest beginning that is shared with one of them. */
 __attribute__((cold, noinline)) static const uint8_t *fault(struct reading *r, const uint8_t *p, const char *const *tags) {
     r->fault = p;
     for (const char *tag; (tag = *tags) != NULL; tags++) {

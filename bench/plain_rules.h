@@ -91,7 +91,7 @@ static inline int good_time(const uint8_t *s, size_t n) {
         && all(s + 17, 2, DIGIT) && number(s + 11, 2) < 24 && number(s + 14, 2) < 60 && number(s + 17, 2) < 60;
 }
 
-/* The digits of some bytes of an IBAN behind a rest of 97. */
+/* What is left on division by 97 of a number whose rest so far is `rest`, once some bytes of an IBAN follow it. */
 static inline uint64_t rest_of_97(uint64_t rest, const uint8_t *s, size_t n) {
     for (size_t i = 0; i < n; i++) {
         rest = is(s[i], DIGIT) ? 10 * rest + (s[i] - '0') : 100 * rest + ((s[i] | 32) - 'a' + 10);

@@ -1,4 +1,4 @@
--- WHAT IS ANSWERED behind the last event, as the code says it, of the row w and the totals y. Executable; that it is the verdict is proofs/Right.
+-- WHAT IS ANSWERED after the last event, as the code says it, of the row w and the totals y. Executable; that it is the verdict is proofs/Right.
 --   batchFound f     the first fault of a batch: of its count, else of its sum
 --   countFound w n, sumFound w c   the header's count, and its sum, where they are declared and differ
 --   answer r w y     what is answered where r is the room of the tables

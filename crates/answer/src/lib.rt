@@ -1,4 +1,4 @@
-// What the check answers: the stages 3 to 11, from what was heard and the totals behind the last event. Definitions: specs/.
+// What the check answers: the stages 3 to 11, from what was heard and the totals after the last event. Definitions: specs/.
 ghost use mathlib.Core.Path.{_≡_};
 ghost use Prim.Native.Nat.{_+_, _-_, _*_, _≤_};
 ghost use lib.Dec.{leb};
@@ -168,7 +168,7 @@ fn conclude(all: Stage, y: Totals) -> Checked
     }
 }
 
-// What is answered behind the last event, where the tables hold `slips` and `rows` numbers.
+// What is answered after the last event, where the tables hold `slips` and `rows` numbers.
 pub fn answer(heard: &[u64], totals: Totals, slips: usize, rows: usize) -> Checked
     requires { ⌜ (length (now heard) ≡ heardLength) × ((totals .transactions .0 ≤ mostBytes + 1) × (totals .batches ≤ mostBytes + 1)) ⌝ }
     ensures { λ r. ⌜ said r ≡ answer (record { slips = slips; rows = rows }) (rowOf (now (heard .entry))) totals ⌝ }

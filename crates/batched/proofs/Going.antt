@@ -1,4 +1,4 @@
--- A LOOP OF WRITERS: what is written so far, with what is still to be written behind it, is the whole.
+-- A LOOP OF WRITERS: what is written so far, with what is still to be written after it, is the whole.
 --   Going out₀ at whole out to rest      the loop began with the output out₀ at the place `at`; it has come to the output `out` and the place `to`, and `rest` is left
 --   going-start, going-on, going-end     nothing is written; one piece more is; nothing is left
 use Prim.Native.Nat.{ℕ}

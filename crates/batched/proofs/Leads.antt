@@ -1,6 +1,6 @@
 -- THE LEAD OF A COLLECTION, from the start of its line on.
 --   lead-within          the line of a collection has its kind byte and lead bytes, in 16 digits, within the list
---   lead-cents           by these its cents are told
+--   lead-cents           these give its cents
 use Prim.Native.Nat.{ℕ, _+_, _-_, _≤_}
 use native.Mathlib.Nat.{le-refl}
 use native.Mathlib.Omega.{arith}

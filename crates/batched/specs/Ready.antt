@@ -48,7 +48,7 @@ pub record BatchesReady (s : Bytes) (table labels : List ℕ) (m : ℕ) : Type 0
   pub some : (k : ℕ) → k < m → 1 ≤ count (eqb k) labels
   pub most : m ≤ mostBatches
 
--- 2,300 for each transaction, and what stands before and behind them
+-- 2,300 for each transaction, and what stands before and after them
 abbrev pub batchRoom : ℕ
 batchRoom = 2_300 * mostCollections + 3_000
 

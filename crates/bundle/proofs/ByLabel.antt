@@ -62,7 +62,7 @@ module _ {A : Type 0} (lo hi r : ℕ) (x : A) (xs : List A) where
       let g : hi - max (suc r) lo ≡ 0 = omega arith in
       rw (f, g)
 
--- a collection of the terms, behind r others of them: it is in batch m exactly if r / c is m
+-- a collection of the terms, after r others of them: it is in batch m exactly if r / c is m
 own-step : {A : Type 0} (c m b r : ℕ) (x : A) (rest xs : List A) → 1 ≤ c → rest ≡ window (m * c) (m * c + c) (suc r) xs
     → putIf (eqb (b + m) (b + r / c)) x rest ≡ window (m * c) (m * c + c) r (x ∷ xs)
 own-step {A} c m b r x rest xs h e = go (decLt r (m * c)) (decLt r (m * c + c))

@@ -1,5 +1,5 @@
 -- THE BATCHES of a list, how many are needed, and what it is to carry the collections of a list. To be believed; definitions only.
--- X are the collections, of any type, and K their terms: `terms` tells a collection's terms, and `eq` compares two.
+-- X are the collections, of any type, and K their terms: `terms` gives a collection's terms, and `eq` compares two.
 --   Decides eq             the test `eq` decides equality
 --   firsts eq ks           each of ks once, in order of first appearance
 --   pieces c xs            xs, cut after every c

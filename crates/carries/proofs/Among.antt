@@ -4,7 +4,7 @@
 --   above-without                      no element below k is among those above k
 --   all-append, all-without            the elements of a part
 --   before-without, parts-without      pieces without the part
---   Piece n cs, parts-gather           a first element of the part n and no other; such pieces, one behind the other
+--   Piece n cs, parts-gather           a first element of the part n and no other; such pieces, one after the other
 use Prim.Native.Nat.{ℕ, _≤_, _<_}
 use native.Mathlib.Omega.{arith}
 use mathlib.Core.Bool.{Bool, true, false, not, _&&_, _||_}

@@ -1,6 +1,6 @@
 -- WHAT THE CONTENTS OF THE WRITTEN MESSAGE CARRY: its batches, with every collection as it was.
 --   collection-held            a good collection is read back from its transaction
---   behind-without             behind a batch's head no element is of a part below that of a transaction
+--   behind-without             after a batch's head no element is of a part below that of a transaction
 --   count-found, sum-found     the declarations of a batch
 --   transactions-held          the transactions of a batch
 --   batch-collections          the collections of a batch: its terms are read back, and each collection
@@ -33,7 +33,7 @@ use Rattle.carries.proofs.Among.{without, above, each-append, each-gath
 -- ─── a transaction ───
 
 module _ (x : Collection) where
-  -- behind its opening, of no part up to that of a transaction
+  -- after its opening, of no part up to that of a transaction
   transaction-rest : T (each (above 10) (drop 1 (transactionHeld x)))
   transaction-rest = go (x .bank) (x .remittance)
     where

@@ -1,6 +1,6 @@
 -- WHAT IS FOUND in what a message says is found among the contents of its tree.
 --   parts-seen, all-seen, the-seen     the elements of a part
---   worth-seen, text-seen              the number that the one element of a part tells, and its text
+--   worth-seen, text-seen              the number that the one element of a part states, and its text
 --   carried-contents                   the collections of a message are those of its contents
 use Prim.Native.Nat.{ℕ}
 use mathlib.Core.List.{List, [], _∷_, map}

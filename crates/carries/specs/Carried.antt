@@ -30,7 +30,7 @@ abbrev pub textAt : Bytes → Option Told → Bytes
 textAt s none = []
 textAt s (some t) = take (t .length) (drop (t .start) s)
 
--- terms, and a collection of the terms k, by their parts: `worth n` is the number that the element of the part n tells, and `text n` its text
+-- terms, and a collection of the terms k, by their parts: `worth n` is the number that the element of the part n states, and `text n` its text
 abbrev pub termsBy : (ℕ → ℕ) → (ℕ → Bytes) → Terms
 termsBy worth text = record { scheme = worth part.scheme; sequence = worth part.sequence; date = text part.collectionDate }
 

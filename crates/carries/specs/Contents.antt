@@ -3,7 +3,7 @@
 --   contents t r           the contents of the tree t in the order of the opening tags, before r
 --   contentOf s t          what the element t holds, of the message s
 --   is, before, parts, allOf, the   the elements of a part, as Sections says
---   worth o, textOf o      what a text tells, and the text; 0 and empty where there is none
+--   worth o, textOf o      the number that a text states, and the text; 0 and empty where there is none
 --   termsIn p, collectionIn k p, collectionsIn p, carriedOf cs   the collections
 --   ProfileIn cs           as InProfile: the limits of batches and transactions, and the texts
 --   AgreedIn cs            as AllAgree: every declared count and sum is that of the collections
@@ -97,7 +97,7 @@ pub record ProfileIn (cs : List Content) : Type 0 where
   pub transactions : length (allOf part.transaction cs) ≤ mostTransactions
   pub texts : All (λ t. T (good (t .judged))) cs
 
--- a declaration is absent, or tells the number n
+-- a declaration is absent, or states the number n
 abbrev pub Agreed : Option Content → ℕ → Type 0
 Agreed none n = Unit {0}
 Agreed (some t) n = numberTold (t .judged) ≡ n

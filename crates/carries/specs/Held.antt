@@ -49,7 +49,7 @@ payment e a m d =
     ∷ box 0
     ∷ []
 
--- behind it: name and account
+-- after it: name and account
 abbrev pub debtor : Bytes → Bytes → List Content
 debtor n a = box 0 ∷ txt part.debtorName Name n ∷ box 0 ∷ box 0 ∷ txt part.debtorAccount Iban a ∷ []
 
@@ -84,7 +84,7 @@ totalsHeld i n s k q d nm a =
     ∷ box 0
     ∷ []
 
--- behind it: the creditor identifier
+-- after it: the creditor identifier
 abbrev pub schemeHeld : Bytes → List Content
 schemeHeld i =
     txt 0 Charges (ascii "SLEV")

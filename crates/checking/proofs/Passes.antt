@@ -87,7 +87,7 @@ module _ (s : Bytes) (slips rows a b : List ℕ) (ns₀ ns : List ℕ) (y₀ : T
   pub small : (y : Tally) → o ≡ WasRead y → Bounded (length s) o ns → Within mostBytes (stateOf ns y [] [])
   small y e w = within-more (subst (λ (z : Outcome). Bounded (length s) z ns) e w) (was-read y e .short)
 
-  -- the totals behind the last event
+  -- the totals after the last event
   pub totals-fit : (y : Tally) → o ≡ WasRead y → Bounded (length s) o ns → (w : Row) (z : Totals) (a′ b′ : List ℕ) → Finished (stateOf ns y a b) w z a′ b′
       → (z .transactions .0 ≤ mostBytes + 1) × (z .batches ≤ mostBytes + 1)
   totals-fit y e v w z a′ b′ q = totals-small mostBytes (stateOf ns y [] []) z (small y e v) (q .totals)
@@ -108,7 +108,7 @@ module _ (s : Bytes) (slips rows a b : List ℕ) (ns₀ ns : List ℕ) (y₀ : T
   unfolding ReadRight Fills
   filled-stuck a′ b′ p e l m y n = absurd (seen (StuckAt p) e .1 .0 (m, y))
 
-  -- behind the last event
+  -- after the last event
   module _ (y : Tally) (e : o ≡ WasRead y) (w : Row) (z : Totals) (a′ b′ : List ℕ) (q : Finished (stateOf ns y a b) w z a′ b′) where
     ended : Finished (fold step (fresh slips rows) (saidBy (was-read y e .read))) w z a′ b′
     ended = subst (λ (st : State). Finished st w z a′ b′) (was-read y e .ends) q

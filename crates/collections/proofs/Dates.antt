@@ -1,7 +1,7 @@
--- DATES AS NUMBERS: a real day is told as yyyymmdd, so days that tell the same number are the same bytes.
+-- DATES AS NUMBERS: the number of a real day is yyyymmdd, so days of the same number are the same bytes.
 --   digits-same   as many digits that spell the same number are the same digits
---   date-same     good dates that tell the same number are the same
---   date-under    what a text tells as a date is below 10 to the 8th
+--   date-same     good dates of the same number are the same
+--   date-under    the number that a text states as a date is below 10 to the 8th
 use Prim.Native.Nat.{ℕ, _+_, _-_, _*_, _^_, _<_}
 use native.Mathlib.Omega.{arith}
 use mathlib.Core.Bool.{true, false}
@@ -23,7 +23,7 @@ use Rattle.text.proofs.Days.{digitsAt, part-there, part-under}
 -- ─── digits ───
 
 module _ (c d : ℕ) (f : T (digit c)) (g : T (digit d)) where
-  -- one digit behind each of two numbers
+  -- one digit after each of two numbers
   one-more : (v w : ℕ) → v * 10 + (c - 48) ≡ w * 10 + (d - 48) → (v ≡ w) × (c ≡ d)
   one-more v w e =
       let a = between-low 48 57 c (T-true (digit c) f) in
@@ -71,7 +71,7 @@ module _ (s t : Bytes) (f : fits shape s ≡ true) (g : fits shape t ≡ true) w
       digits-same (take n (drop a s)) (take n (drop a t)) (omega (arith, length-take n (drop a s), length-take n (drop a t), length-drop a s, length-drop a t))
       (true-T (all digit (take n (drop a s))) (k .1 .1)) (true-T (all digit (take n (drop a t))) (l .1 .1)) e
 
-  -- a part of n from the place a on, and what stands behind it
+  -- a part of n from the place a on, and what stands after it
   piece : (a n : ℕ) → take n (drop a s) ≡ take n (drop a t) → drop (a + n) s ≡ drop (a + n) t → drop a s ≡ drop a t
   piece a n e h = front-rest n (drop a s) (drop a t) e (rw (drop-drop n a s, drop-drop n a t) h)
 
@@ -85,9 +85,9 @@ module _ (s t : Bytes) (f : fits shape s ≡ true) (g : fits shape t ≡ true) w
       (piece 5 2 (part-same 5 2 tt m)
       (piece 7 1 (dash-at 7 refl s f ∙ sym (dash-at 7 refl t g)) (piece 8 2 (part-same 8 2 tt d) ended))))
 
--- ─── what a date tells ───
+-- ─── the number of a date ───
 
--- a real day: its shape, and the number that it tells
+-- a real day: its shape, and the number that it states
 module _ (s : Bytes) (t : T (dated s)) where
   shaped : fits shape s ≡ true
   shaped = T-true (fits shape s) (and-l (fits shape s) (realDay (valueAt 0 4 s) (valueAt 5 2 s) (valueAt 8 2 s)) t)

@@ -1,7 +1,7 @@
 -- A LIST THAT IS JUDGED GOOD HAS NONE BUT GOOD VALUES.
 --   good-creditor      its creditor's
 --   good-collections   each collection's; good-terms: so their terms are good
---   good-number        it has as many collections as are told
+--   good-number        it has as many collections as its judgement says
 --   framed-line        a line that holds a frame has the bytes of one
 use Prim.Native.Nat.{ℕ, zero, suc, _+_, _-_, _<_, _≤_}
 use native.Mathlib.Nat.{not-suc-le-zero, le-of-suc-le-suc}
@@ -43,7 +43,7 @@ use Rattle.collections.proofs.Lines.{listed-number}
 
 -- ─── judgements ───
 
--- a good judgement stands behind a test that held
+-- where a judgement is good, its first test held
 held : (b : Bool) (f : Flaw) (j : Judged) → T (good (must b f j)) → T b
 held true f j t = tt
 held false f j t = t
@@ -160,7 +160,7 @@ collection-line n s d f g = record {
 
 -- ─── lists ───
 
--- the lines behind the first k, of which the creditor's is one
+-- the lines after the first k, of which the creditor's is one
 collections-from : (k n m : ℕ) (ls : List Line) → 1 ≤ k → framesFrom k ls ≡ Good n → valuesFrom k ls ≡ Good m → All GoodCollection (map (λ l. collectionOf (unhex (l .bytes))) ls)
 collections-from k n m [] h f v = tt
 collections-from k n m (l ∷ ls) h f v =

@@ -1,8 +1,8 @@
--- DAY LISTS, AND WHAT IS TOLD OF EACH, computed: document 01's number and place of a refusal, and the flaw of a value.
+-- DAY LISTS, AND WHAT IS REPORTED OF EACH, computed: document 01's number and place of a refusal, and the flaw of a value.
 --   dayList                 the list of the examples: a creditor and two collections, the lines `creditorLine`, `first` and `second`
---   lineOf s, frame s ts    a line of the digits s, ended by LF; a line of the digits s and of the texts ts, each behind its length byte
+--   lineOf s, frame s ts    a line of the digits s, ended by LF; a line of the digits s and of the texts ts, each after its length byte
 --   in-words                the lines of the examples in words
---   told j                  how a judged list is told; a good one as 0 and the number of its collections
+--   told j                  how a judged list is reported; a good one as 0 and the number of its collections
 --   earlier-first           the order of the stages
 --   too-long, not-too-long, ceilings   21 and 22
 --   not-frames              23: a line that is no frame of its kind, or lacks LF
@@ -66,7 +66,7 @@ secondTexts = "2026-11-10" ∷ "FEE 2" ∷ "M-666/666" ∷ "1989-07-03" ∷ "BAN
 in-words : (creditorLine ≡ frame "01" creditorTexts) × (first ≡ frame "020001000001ADB7" firstTexts) × (second ≡ frame "02000100000347E0" secondTexts)
 in-words = (refl, refl, refl)
 
--- ─── what is told ───
+-- ─── what is reported ───
 
 abbrev told : JudgedList → Fault
 told (Good n) = fault 0 n
@@ -117,7 +117,7 @@ not-frames : Told (
     ∷ (lineOf "01000000000000" ∷ [], fault 23 1)  -- a text too few
     ∷ (lineOf "0100000000000001" ∷ [], fault 23 1)  -- a text that runs past the end
     ∷ (first ∷ first ∷ [], fault 23 1)  -- a collection as line 1
-    ∷ (creditorLine ∷ first ∷ creditorLine ∷ lineOf "" ∷ [], fault 23 3)  -- a creditor frame behind line 1; the first of two
+    ∷ (creditorLine ∷ first ∷ creditorLine ∷ lineOf "" ∷ [], fault 23 3)  -- a creditor frame after line 1; the first of two
     ∷ (creditorLine ∷ lineOf "03000000000000000000000000000000" ∷ [], fault 23 2)  -- another kind
     ∷ [])
 not-frames = refl

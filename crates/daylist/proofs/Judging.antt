@@ -1,7 +1,7 @@
 -- THE FIELDS OF A LINE, one by one: i fields are judged, and `at` is where the next text's length byte stands.
 --   past                         an index that is none of the first
 --   late, default-free           the last of a list at each index from its own on; an index that is there needs no default
---   first-bad-append             one list of judgements behind the other
+--   first-bad-append             one list of judgements after the other
 --   texts-number, lead-small     a frame has a text for each field, and at most seven lead bytes
 --   texts-of                     the texts of a line
 --   lead-none, lead-is           a creditor line has no field before its texts; a collection has three

@@ -1,5 +1,5 @@
 -- A NUMBER READ HIGH BYTE FIRST: v is what was read before the place `at`, and the bytes before the place `end` count.
---   take-there, drop-there   of the bytes that are asked for, those that are there; the bytes behind them
+--   take-there, drop-there   of the bytes that are asked for, those that are there; the bytes after them
 --   high-start           the bytes that count, where fewer may be there than are asked for
 --   high-go, high-end    one byte more is taken; none is left
 --   high-more, high-under   with one byte more it stays below its power of 256, and so below each later power

@@ -2,7 +2,7 @@
 -- Ends     where a line ends                    Stops     the stages, line by line
 -- Goods    what a good list is
 -- Early    the refusals of a list that is judged are 21 to 26
--- Cases    some lists and what is told of each, computed; the list of the examples
+-- Cases    some lists and what is reported of each, computed; the list of the examples
 pub mod Leads
 pub mod Judging
 pub mod Ends

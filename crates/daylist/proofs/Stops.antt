@@ -1,7 +1,7 @@
 -- THE STAGES, line by line: k lines are done, `at` is where the next line starts, and `end` where it ends.
 --   frames-lacks, frames-not             23 finds a fault: the line lacks LF, or is not hexadecimal and a frame of its kind
 --   frames-go, frames-end                the line is a frame; there is none
---   frames-count                         where each line is a frame, their number is told
+--   frames-count                         where each line is a frame, their number is the answer
 --   values-bad, values-go, values-end    26 finds a fault, or not; there is no line
 --   list-long                            21
 --   list-ceiling-low, list-ceiling-high  22

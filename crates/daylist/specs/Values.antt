@@ -26,7 +26,7 @@ judgedTexts (f ∷ fs) (t ∷ ts) = judgedField f t ∷ judgedTexts fs ts
 abbrev pub judgedFields : ℕ → Bytes → List Judged
 judgedFields n s = judgedLead n (leadOf (frameOf n) s) ++ judgedTexts (fieldsOf n) (textsOf (frameOf n) s)
 
--- a good field leaves it to those behind it
+-- a good field leaves it to those after it
 abbrev pub else : Judged → Judged → Judged
 else (Good n) j = j
 else (Bad f) j = Bad f

@@ -24,7 +24,7 @@ fn holds_frame(line: &[u8], number: usize) -> bool
     frames::is_framed(line, frames::frame_of(number))
 }
 
-// Stage 23: the first line that is not a frame of its kind, or lacks LF. Good tells the number of lines.
+// Stage 23: the first line that is not a frame of its kind, or lacks LF. Good gives the number of lines.
 pub fn judge_frames(list: &[u8]) -> JudgedList
     ensures { λ r. ⌜ r ≡ framesFrom 0 (lines (now (list .entry))) ⌝ }
 {
@@ -44,7 +44,7 @@ pub fn judge_frames(list: &[u8]) -> JudgedList
     JudgedList::Good(done)
 }
 
-// Stage 26: the first line of which a value breaks its rule. Good tells the number of lines.
+// Stage 26: the first line of which a value breaks its rule. Good gives the number of lines.
 pub fn judge_values(list: &[u8]) -> JudgedList
     requires { ⌜ length (now list) ≤ mostBytes ⌝ }
     ensures { λ r. ⌜ r ≡ valuesFrom 0 (lines (now (list .entry))) ⌝ }

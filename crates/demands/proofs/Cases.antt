@@ -1,4 +1,4 @@
--- THE CASES OF THE DEFINITIONS, of the check's promise: every outcome for a message of message/proofs/Cases tells the number and the place that the case has.
+-- THE CASES OF THE DEFINITIONS, of the check's promise: every outcome for a message of message/proofs/Cases gives the number and the place that the case has.
 --   answer-read   the verdict of the check is what the definitions compute of the message as it is read
 --   cases-hold    so each case holds of every outcome that the promise allows
 use Prim.Native.Nat.{ℕ, _≤_}
@@ -41,7 +41,7 @@ module _ (s : Bytes) (slips rows : List ℕ) (v : Verdict) (a b : List ℕ) wher
           ∙ sym (ap (verdictRead (message declaration (q .read)) (roomOf slips rows)) (read-all (q .read)))
           ∙ ap (λ (u : Bytes). verdictRead u (roomOf slips rows) (read declaration Document u)) (q .bytes)
 
--- every outcome of the check for the message and such tables tells the number and the place
+-- every outcome of the check for the message and such tables gives the number and the place
 Answers : Case → Type 0
 Answers c = (slips rows : List ℕ) (v : Verdict) (a b : List ℕ) → length slips ≡ c .slips → length rows ≡ c .rows → Checks (c .message) slips rows v a b
     → (toldAs v .number ≡ c .number) × (toldAs v .place ≡ c .place)

@@ -1,5 +1,5 @@
--- DEMANDS 1 AND 2, OF EVERY OUTCOME OF THE CHECK: its verdict told in numbers, and both tables.
---   rows-tell   the rows of a table tell what each batch declares, and where it declares nothing
+-- DEMANDS 1 AND 2, OF EVERY OUTCOME OF THE CHECK: its verdict in numbers, and both tables.
+--   rows-tell   the rows of a table say what each batch declares, and where it declares nothing
 --   numbers, keeps, exactly, of-message, belongs, answers, absent   the sentences of the demands
 use Prim.Native.Nat.{ℕ, _+_, _*_, _≤_}
 use native.Mathlib.Omega.{arith}

@@ -28,7 +28,7 @@ tables p q = λ i. record { slips = p i; rows = q i }
 
 -- ─── checks ───
 
--- an outcome of the check whose verdict is told as w
+-- an outcome of the check whose verdict is w in numbers
 record Told (x : Bytes × Tables) (w : DeskChecked) (t : Tables) : Type 0 where
   pub verdict : Verdict
   pub checks : Checks (x .0) (x .1 .slips) (x .1 .rows) verdict (t .slips) (t .rows)
@@ -78,7 +78,7 @@ desk-once x y z p q =
 abbrev Given : Type 0
 Given = Job × Bytes
 
--- an outcome of the writer whose answer is told as w
+-- an outcome of the writer whose answer is w in numbers
 abbrev Wrote : Given → DeskWritten → Bytes → Type 0
 Wrote x w out′ = (w ≡ writtenNumbers (answerFor (x .0 .list) (x .0 .ceiling) (length (x .1)))) × (out′ ≡ outputFor (x .0 .list) (x .0 .ceiling) (x .1))
 

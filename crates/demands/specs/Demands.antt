@@ -4,8 +4,8 @@
 --   Tables, Job                          the two tables that a check is lent; the list and the ceiling that a writer is given
 --   Check, DeskCheck, Write, DeskWrite   y is an outcome that the promise of `check`, `desk_check`, `write`, `desk_write` allows for x
 --   checkTold, writeTold                 the answers of `check` and `write` in numbers
---   Demand1, Demand2, Demand3            the demands, of an operation whose answers are told in numbers by `told`
---   Tells, RowTells, RowsTell            what a row tells of a declaration, and of a batch; the rows of all batches
+--   Demand1, Demand2, Demand3            the demands, of an operation whose answers `told` gives in numbers
+--   Tells, RowTells, RowsTell            what a row says of a declaration, and of a batch; the rows of all batches
 --   LongEnough t m                       the tables t are long enough for the message m
 --   FixedMessage, FewestBatches          what demands 2 and 3 ask of a written message
 --   MeetsNone n                          n is the number of none of the refusals 21 to 26
@@ -89,7 +89,7 @@ module _ {I A B : Type 0} (allows : I × B → A × B → Type 0) (number : A �
 
 -- ─── demand 2 ───
 
--- what a row tells of a declaration: mark and value
+-- what a row says of a declaration: mark and value
 abbrev pub Tells : Option Told → ℕ → ℕ → Type 0
 Tells none mark value = (mark ≡ 0) × (value ≡ 0)
 Tells (some t) mark value = (mark ≡ 1) × (value ≡ worth t)

@@ -1,7 +1,7 @@
 -- WHAT THE FUNCTIONS OF THE DESK ANSWER, in numbers. To be believed; definitions only.
 --   checkedNumbers v         number 0 and the totals of an accepted message; the number and place of a refusal, and totals 0
 --   writtenNumbers a         number 0 and the length of a written message; the number and place of a refusal
---   DeskChecks s slips rows r slips′ rows′   the check's promise (promise/specs/Check), its answer told in numbers
+--   DeskChecks s slips rows r slips′ rows′   the check's promise (promise/specs/Check), its answer in numbers
 use Prim.Native.Nat.{ℕ}
 use mathlib.Core.List.{List}
 use mathlib.Core.Path.{_≡_}

@@ -1,6 +1,6 @@
 -- COLUMNS AND ROWS, in plain variables.
 --   all-at                each of the parts is one
---   columns, columns-step, columns-done   two numbers of each part; one turn of the loop, with the rest still to be put behind it; no part is left
+--   columns, columns-step, columns-done   two numbers of each part; one turn of the loop, with the rest still to be put after it; no part is left
 --   put-none, put-lent    no room; the stretch that was lent comes back
 --   row-lent              the same of a row's declarations
 use Prim.Native.Nat.{ℕ, zero, suc, _+_, _-_, _*_, _≤_, _<_}

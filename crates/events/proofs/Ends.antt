@@ -1,5 +1,5 @@
 -- WHAT ENDS, arm by arm, in plain variables: a transaction that is settled, a batch that is shut.
---   slip-lent        a slip: two numbers, and the texts in the stretch behind them
+--   slip-lent        a slip: two numbers, and the texts in the stretch after them
 --   slip-columns     the numbers of a slip as columns of the row
 --   settled-closed, settled-some   no transaction is open; one        add-fits   it can be added
 --   batch-is         the batch that ends, field by field

@@ -1,12 +1,12 @@
--- WHAT AN EVENT DOES, arm by arm, in plain variables: a batch ends, a text is told, an element begins.
+-- WHAT AN EVENT DOES, arm by arm, in plain variables: a batch ends, a text is heard, an element begins.
 --   settled-within, close-fits     the numbers stay small where the open transaction is added
 --   ended-none, ended-some         no batch is open; one ends
 --   shut-is                        both are shut
---   told-good, told-bad            a text is told
+--   told-good, told-bad            a text is heard
 --   begin-fits                     one batch more can be counted
 --   begins-batch, begins-transaction, begins-other   an element begins
---   text-step                      what is told of a text is the step
---   finished                       behind the last event
+--   text-step                      what is heard of a text is the step
+--   finished                       after the last event
 use Prim.Native.Nat.{ℕ, zero, suc, _+_, _-_, _*_, _^_, _≤_, _<_}
 use native.Mathlib.Omega.{arith}
 use mathlib.Core.Bool.{Bool, true, false}
@@ -194,7 +194,7 @@ plain-saying : (st : State) (t : Told) → (t .part ≡ part.batch → ⊥) → 
     }) (saying st t)
 plain-saying st t b c = rw (ne-eqb (t .part) part.batch b, ne-eqb (t .part) part.transaction c) refl
 
--- what is told of a text is the step
+-- what is heard of a text is the step
 pub text-step : (w : Row) (t : Told) (y : Tally) (s r : List ℕ) → Plain (t .part) → stateWith (toldRow w (t .part) (t .start) (t .length) (t .judged)) y s r ≡ step (stateWith w y s r) t
 text-step w t y s r q = plain-saying (stateWith w y s r) t (q .batch) (q .transaction) ∙ plain-step (stateWith w y s r) t (q .batch) (q .transaction)
 

@@ -2,7 +2,7 @@
 --   endedRows w y rows, endedRow w y   the rows, and what was heard, where the open batch ends
 --   toldRow w p a n j                  what was heard where a text of the part p, from a on and n bytes long, is judged j
 --   Plain p                            a part that begins neither a batch nor a transaction
---   Finished st w y s r                what is left behind the last event
+--   Finished st w y s r                what is left after the last event
 use Prim.Native.Nat.{ℕ, _-_, _*_, _<_}
 use mathlib.Core.List.{List}
 use mathlib.Core.Path.{_≡_}

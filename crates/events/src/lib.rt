@@ -27,7 +27,7 @@ use text::Rule;
 
 // ─── columns ───
 
-// Two numbers of each of the parts, a and b, one part behind the other: the whole of the stretch that it is lent.
+// Two numbers of each of the parts, a and b, one part after the other: the whole of the stretch that it is lent.
 fn fill_columns(into: &mut [u64], heard: &[u64], parts: &[usize], a: usize, b: usize)
     requires { ⌜ (length (now into) ≡ 2 * length (now parts)) × ((length (now heard) ≡ heardLength) × (All (λ p. p < partsEnd) (now parts) × ((a < 4) × (b < 4)))) ⌝ }
     ensures { λ _. ⌜ now (into .exit) ≡ gather (λ p. getD (now (heard .entry)) (4 * p + a) 0 ∷ getD (now (heard .entry)) (4 * p + b) 0 ∷ []) (now (parts .entry)) ⌝ }
@@ -66,7 +66,7 @@ fn fill_slip(slip: &mut [u64], heard: &[u64], k: u64)
     );
 }
 
-// The slip of the open transaction, behind those before it, where there is room.
+// The slip of the open transaction, after those before it, where there is room.
 fn put_slip(heard: &[u64], slips: &mut [u64], tally: Tally)
     requires { ⌜ (length (now heard) ≡ heardLength) × (tally .transactions .0 + tally .count .0 ≤ mostBytes) ⌝ }
     ensures { λ _. ⌜ now (slips .exit) ≡ putIfRoom (now (slips .entry)) (12 * (tally .transactions .0 + tally .count .0)) 12 (slipNumbers (tally .batches) (rowOf (now (heard .entry)) .said)) ⌝ }
@@ -154,7 +154,7 @@ fn fill_row(row: &mut [u64], heard: &[u64], tally: Tally)
     );
 }
 
-// The row of the open batch, behind those before it, where there is room.
+// The row of the open batch, after those before it, where there is room.
 fn put_row(heard: &[u64], rows: &mut [u64], tally: Tally)
     requires { ⌜ (length (now heard) ≡ heardLength) × ((1 ≤ tally .batches) × Within (mostBytes + 1) (stateOf (now heard) tally [] [])) ⌝ }
     ensures { λ _. ⌜ now (rows .exit) ≡ putIfRoom (now (rows .entry)) (8 * (tally .batches - 1)) 8 (rowNumbers (rowOf (now (heard .entry)) .said) tally) ⌝ }
@@ -209,7 +209,7 @@ pub fn text(heard: &mut [u64], message: &[u8], rule: Rule, part: usize, start: u
     }
 }
 
-// An element that holds elements begins: its opening tag stands at `place`, and white space of this size behind it at `start`.
+// An element that holds elements begins: its opening tag stands at `place`, and white space of this size after it at `start`.
 pub fn begin(
     heard: &mut [u64],
     slips: &mut [u64],
@@ -242,7 +242,7 @@ pub fn begin(
     tally
 }
 
-// Behind the last event: the totals, with the last transaction and the last batch.
+// After the last event: the totals, with the last transaction and the last batch.
 pub fn finish(heard: &mut [u64], slips: &mut [u64], rows: &mut [u64], tally: Tally) -> Totals
     requires { ⌜ (length (now heard) ≡ heardLength) × Within mostBytes (stateOf (now heard) tally [] []) ⌝ }
     ensures { λ r. ⌜ Finished (stateOf (now (heard .entry)) tally (now (slips .entry)) (now (rows .entry))) (rowOf (now (heard .exit))) r (now (slips .exit)) (now (rows .exit)) ⌝ }

@@ -1,7 +1,7 @@
 -- THE LINES, CUT ONE BY ONE.
 --   cut-line, last-line   the first line where LF ends it, and where it does not
 --   next-line, end-line   the same of the line at a place, as a part that is lent
---   line-within, line-inside, line-passed   a line ends no later than the bytes, and before their end where it is ended; behind it less is left
+--   line-within, line-inside, line-passed   a line ends no later than the bytes, and before their end where it is ended; after it less is left
 --   starts-go, starts-last, starts-end   where the lines from a place on start
 --   by-first, by-further  what line 1 has, and what every further line has; by-ap: a function of it
 use Prim.Native.Nat.{ℕ, suc, _+_, _-_, _<_, _≤_}
@@ -32,7 +32,7 @@ module _ (c : ℕ) (s : Bytes) where
   lines-end : notEnd c ≡ false → lines (c ∷ s) ≡ record { bytes = []; ended = true } ∷ lines s
   lines-end e = rw (e, lines)
 
--- the first line, of n bytes, and those behind its LF
+-- the first line, of n bytes, and those after its LF
 abbrev cutAt : ℕ → Bytes → List Line
 cutAt n s = record { bytes = take n s; ended = true } ∷ lines (drop (suc n) s)
 
@@ -59,7 +59,7 @@ last-line (c ∷ s) l h = go (notEnd c) refl (last-line s)
 -- ─── at a place of the list, n bytes before the next LF ───
 
 module _ (s : Bytes) (at n : ℕ) (e : span notEnd (drop at s) ≡ n) where
-  -- the next line where LF ends it, and those behind it
+  -- the next line where LF ends it, and those after it
   pub next-line : at + n < length s → lines (drop at s) ≡ record { bytes = take (at + n - at) (drop at s); ended = true } ∷ lines (drop (at + n + 1) s)
   next-line h =
       let a : at + n - at ≡ n = omega arith in

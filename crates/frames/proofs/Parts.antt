@@ -1,6 +1,6 @@
 -- A WALK TO A TEXT of a line that holds a frame: j texts are passed, and the next length byte is at the place `at`.
 --   Come f s j at            the walk has come so far
---   come-start, come-go      it begins behind the lead bytes; it passes a text
+--   come-start, come-go      it begins after the lead bytes; it passes a text
 --   come-there               the text at this place is there
 --   come-part                where it stands
 --   unhex-drop, unhex-take   a part of the digits stands for a part of the bytes
@@ -50,7 +50,7 @@ module _ (left : ℕ) (s : Bytes) (at : ℕ) (l : 0 < left) (h : holds left (dro
       go zero k = absurd (omega (arith, k))
       go (suc n) k = let e : suc n - 1 ≡ n = omega arith in rw (e, drop-drop (getD s at 0) (at + 1) s)
 
--- the next of a list, and what stands behind it
+-- the next of a list, and what stands after it
 next-drop : (j : ℕ) (ts : List Bytes) (t : Bytes) (r : List Bytes) → drop j ts ≡ t ∷ r → drop (j + 1) ts ≡ r
 next-drop zero ts t r e = rw e
 next-drop (suc j) [] t r e = let z : _≡_ {A = ℕ} 0 1 = cc in absurd (omega (arith, z))
@@ -103,7 +103,7 @@ module _ (f : Frame) (s : Bytes) (j at : ℕ) (c : Come f s j at) (h : j < f .te
   pub come-part : _≡_ {A = TextPart} (record { start = (at + 1) * 2; length = getD s at 0 * 2 }) (partOf f j s)
   come-part = rw (next-get j (textsOf f s) _ _ here, size, ← (c .place))
 
-  -- and where it is told to be, its bytes are the text
+  -- and where it is said to stand, its bytes are the text
   here-text : take (getD s at 0) (drop (at + 1) s) ≡ getD (textsOf f s) j []
   here-text = sym (next-get j (textsOf f s) _ _ here)
 

@@ -27,7 +27,7 @@ module _ (d : Line) (s : Bytes) where
   cut-at : (a : ℕ) → take (a + far a - a) (drop a s) ≡ upTo a
   cut-at a = let e : a + far a - a ≡ far a = omega arith in rw e
 
-  -- what is claimed of the line i from the place `at` on, where the lines are ls and start as told
+  -- what is claimed of the line i from the place `at` on, where the lines are ls and start as said
   abbrev Leads : List ℕ → List Line → ℕ → Type 0
   Leads ps ls i = (getD ps i 0 < length s) × (upTo (getD ps i 0) ≡ (getD ls i d) .bytes)
 

@@ -1,5 +1,5 @@
 -- BYTES FILLED IN, one by one and by strides.
---   set-go          what each element below j was told to be, and the one stored at j: each below j + 1 is
+--   set-go          what each element below j was said to be, and the one stored at j: each below j + 1 is
 --   stride-go       the front of `out` is that of d: with a stride more of d put there, so is the longer front
 --   stride-length   the length stays; stride-end: the last stride reaches the end; stride-none: there is nothing to fill
 --   part-length     how long a part is; stride-digits: the digits of a stride stand for its bytes

@@ -1,5 +1,5 @@
 -- A WALK OVER A FRAME: `at` is the place that it has come to, and `left` the number of texts that are left.
---   some, behind, passed, none-left                       there is a byte; a place behind the lead bytes, and behind a text; no text is left
+--   some, behind, passed, none-left                       there is a byte; a place after the lead bytes, and after a text; no text is left
 --   framed-none, framed-kind, framed-lead, framed-start   there is no byte; the kind differs; the lead bytes are not there; the texts begin
 --   holds-short, holds-over, holds-go, holds-end          there is no length byte; the text runs past the end; it is passed; none is left
 use Prim.Native.Nat.{ℕ, zero, suc, _+_, _-_, _<_, _≤_}

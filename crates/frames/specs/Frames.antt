@@ -2,7 +2,7 @@
 -- A frame is described by its kind byte, the number of its lead bytes and the number of its texts. A text is a length byte and its bytes.
 --   creditorFrame, collectionFrame   the two frames of document 01
 --   frameOf n                        the frame that line n must hold
---   holds n s                        s is n texts, with nothing behind the last
+--   holds n s                        s is n texts, with nothing after the last
 --   texts n s                        the first n texts of s
 --   framed f s                       the bytes s are a frame f
 --   isFrame f l                      the line l holds a frame f, and LF ends it
@@ -47,10 +47,10 @@ framed f (k ∷ s) = eqb k (f .kind) && (leb (f .lead) (length s) && holds (f .t
 abbrev pub isFrame : Frame → Line → Bool
 isFrame f l = l .ended && (hex (l .bytes) && framed f (unhex (l .bytes)))
 
--- behind the kind byte
+-- after the kind byte
 abbrev pub leadOf : Frame → Bytes → Bytes
 leadOf f s = take (f .lead) (drop 1 s)
 
--- behind the lead bytes
+-- after the lead bytes
 abbrev pub textsOf : Frame → Bytes → List Bytes
 textsOf f s = texts (f .texts) (drop (1 + f .lead) s)

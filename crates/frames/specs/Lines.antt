@@ -1,7 +1,7 @@
 -- THE LINES of a day list, cut at LF, which is 10. To be believed; definitions only.
 --   Line       the bytes of a line, and whether LF ended it
 --   notEnd     a byte that does not end a line
---   lines s    the lines of s: bytes behind the last LF are a line that lacks it; no bytes, no lines
+--   lines s    the lines of s: bytes after the last LF are a line that lacks it; no bytes, no lines
 --   starts s   where each line starts in s, counted in bytes from 0
 --   lineFrom s a   the bytes from a on, up to the next LF
 use Prim.Native.Nat.{ℕ, _+_}
@@ -27,7 +27,7 @@ abbrev pub lines : Bytes → List Line
 lines [] = []
 lines (c ∷ s) = elim (notEnd c) [ true ↦ inFront c (lines s) | false ↦ record { bytes = []; ended = true } ∷ lines s ]
 
--- the first of these lines starts at n; LF stands behind each but perhaps the last
+-- the first of these lines starts at n; LF stands after each but perhaps the last
 abbrev pub startsFrom : ℕ → List Line → List ℕ
 startsFrom n [] = []
 startsFrom n (l ∷ ls) = n ∷ startsFrom (n + length (l .bytes) + 1) ls

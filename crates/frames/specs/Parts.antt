@@ -13,6 +13,6 @@ use Rattle.frames.specs.Frames.{textsOf}
 abbrev pub bytesBefore : ℕ → List Bytes → ℕ
 bytesBefore i ts = total (λ t. 1 + length t) (take i ts)
 
--- behind the kind byte, the lead bytes, the texts before it and its own length byte
+-- after the kind byte, the lead bytes, the texts before it and its own length byte
 abbrev pub partOf : Frame → ℕ → Bytes → TextPart
 partOf f i s = record { start = (1 + f .lead + bytesBefore i (textsOf f s) + 1) * 2; length = length (getD (textsOf f s) i []) * 2 }

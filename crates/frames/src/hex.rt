@@ -73,7 +73,7 @@ pub fn is_hex(line: &[u8]) -> bool
     all_digits(line)
 }
 
-// The byte at a place of those that the line stands for, counted from 0, and 0 behind their end.
+// The byte at a place of those that the line stands for, counted from 0, and 0 beyond their end.
 pub fn byte_at(line: &[u8], place: usize) -> u8
     ensures { λ r. ⌜ r ≡ getD (unhex (now (line .entry))) place 0 ⌝ }
 {

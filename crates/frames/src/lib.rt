@@ -12,7 +12,7 @@ ghost use Rattle.frames.specs.Parts.{partOf};
 pub mod hex;
 pub mod lines;
 
-// A kind of frame: its kind byte, the number of its lead bytes, which follow, and the number of its texts behind those.
+// A kind of frame: its kind byte, the number of its lead bytes, which follow, and the number of its texts after those.
 pub struct Frame {
     pub kind: u8,
     pub lead: usize,
@@ -59,7 +59,7 @@ pub fn frame_of(line: usize) -> Frame
     }
 }
 
-// The bytes that the line stands for are the frame's: its kind byte, its lead bytes, its texts, each a length byte and its bytes, and nothing behind the last.
+// The bytes that the line stands for are the frame's: its kind byte, its lead bytes, its texts, each a length byte and its bytes, and nothing after the last.
 pub fn is_framed(line: &[u8], frame: Frame) -> bool
     ensures { λ r. ⌜ r ≡ framed frame (unhex (now (line .entry))) ⌝ }
 {

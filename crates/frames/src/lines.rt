@@ -21,7 +21,7 @@ fn is_within(text: &[u8]) -> bool
     ended == 0
 }
 
-// A place that whole stretches of so many bytes without LF lead to, from a place on that no LF stands before.
+// How far whole stretches of so many bytes without LF go, from a place on that has no LF before it.
 fn stretches(text: &[u8], from: usize, width: usize) -> usize
     requires { ⌜ 1 ≤ width ⌝ }
     requires { ⌜ (from ≤ length (now text)) × (span notEnd (now text) ≡ from + span notEnd (drop from (now text))) ⌝ }

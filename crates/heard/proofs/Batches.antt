@@ -1,7 +1,7 @@
 -- BATCH AFTER BATCH, TRANSACTION AFTER TRANSACTION: what is open, once it is settled or shut, is what was settled or shut before, with the transaction or batch of its part added.
 --   Purse, purse st, addTransaction   the tally and the slips with the open transaction; with one transaction more
 --   one-transaction     the part of a transaction adds it
---   slipsPut, purse-all   the slips of transactions put one behind the other; what all transactions of a batch add
+--   slipsPut, purse-all   the slips of transactions put one after the other; what all transactions of a batch add
 --   Closed, closedOf st, addBatch     the totals, the first fault and the tables with the open batch closed; with one batch more
 --   one-batch           the part of a batch adds it
 use Prim.Native.Nat.{ℕ, zero, suc, _+_, _-_, _*_}

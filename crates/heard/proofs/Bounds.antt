@@ -43,7 +43,7 @@ settled-small p st w = go (st .tally .batches) (st .said part.transaction .mark)
 
 -- what an event says
 module _ (q : ℕ) (t : Told) (s : Sane t) where
-  -- a number that is told, or stays
+  -- a number that is stated, or stays
   told-small : (n m : ℕ) (w : Word) → (t .part ≡ n → worth t ≤ m) → w .worth ≤ m → ifTrue (is n t) (word t) w .worth ≤ m
   told-small n m w f g = go (is n t) refl
     where

@@ -1,6 +1,6 @@
--- WHAT WAS HEARD IS RIGHT, for every list of events: behind them, with the open batch shut, the totals, the first faults and the two tables are those of the definitions.
+-- WHAT WAS HEARD IS RIGHT, for every list of events: after them, with the open batch shut, the totals, the first faults and the two tables are those of the definitions.
 --   all-batches, all-transactions, all-cents, all-faults   what all batches add
---   all-slips, all-rows   where there is room, the slips and rows of the batches are put one behind the other
+--   all-slips, all-rows   where there is room, the slips and rows of the batches are put one after the other
 --   Quiet, quiet        before the first batch nothing is counted, and nothing put
 --   alone, first-bad, over-right   what goes by itself: the first text that breaks its rule, and the place of the element that is one too many
 --   heard               what was heard of all events, shut

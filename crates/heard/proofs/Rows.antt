@@ -3,8 +3,8 @@
 --   absent, declared what a part declares
 --   words-put        a part says something
 --   words-forgot     what was said from a part on is taken back
---   words-kept       a store behind the words leaves them
---   row-said, row-forgot, row-flaw, row-batches, row-transactions, row-fault   what the row tells then
+--   words-kept       a store beyond the words leaves them
+--   row-said, row-forgot, row-flaw, row-batches, row-transactions, row-fault   what the row says then
 --   said-lent, zero-step, forgot-all, flaw-kept, flaw-noted, fault-kept, fault-noted, count-none, count-one, batch-counted, transaction-counted
 --                    what each arm of the code leaves
 --   fresh-row        nothing was heard
@@ -59,7 +59,7 @@ module _ (ns xs : List ℕ) (at : ℕ) (room : at + length xs ≤ length ns) whe
   pub words-kept : flawSlot ≤ at → (p : ℕ) → wordsIn (putAt ns at xs) p ≡ wordsIn ns p
   words-kept h p = ltb-cases (λ z. ifTrue z (wordAt (putAt ns at xs) p) nothing ≡ ifTrue z (wordAt ns p) nothing) p partsEnd (λ l. word-before p (omega arith)) (λ g. refl)
 
--- what a part declares, whose mark is m: nothing, or the number that it tells
+-- what a part declares, whose mark is m: nothing, or the number that it states
 module _ {A : Type 0} (of : ℕ → A) (no : A) (ns : List ℕ) (p m : ℕ) (l : p < partsEnd) (e : m ≡ getD ns (4 * p + 0) 0) where
   abbrev declares : ℕ → A
   declares k = ifAny k (of (getD ns (4 * p + 3) 0)) no
@@ -142,7 +142,7 @@ row-is s e g h j = λ i. record { said = λ p. s p i; bad = e i; batches = g i; 
 limit-is : {a a′ b b′ : ℕ} → a ≡ a′ → b ≡ b′ → _≡_ {A = Limit} (record { left = a; place = b }) (record { left = a′; place = b′ })
 limit-is e f = λ i. record { left = e i; place = f i }
 
--- two numbers that tell something, before and after a store elsewhere
+-- two numbers that say something, before and after a store elsewhere
 module _ {A : Type 0} (f : ℕ → ℕ → A) (ns ms : List ℕ) (i : ℕ) where
   pair-is : getD ms i 0 ≡ getD ns i 0 → getD ms (i + 1) 0 ≡ getD ns (i + 1) 0 → f (getD ms i 0) (getD ms (i + 1) 0) ≡ f (getD ns i 0) (getD ns (i + 1) 0)
   pair-is a b = λ j. f (a j) (b j)
@@ -289,7 +289,7 @@ module _ (ns : List ℕ) (h : length ns ≡ heardLength) where
   pub count-one : (i p : ℕ) → i + 1 < heardLength → (getD ns i 0 ≡ 0 → ⊥) → set (set ns i (getD ns i 0 - 1)) (i + 1) p ≡ counted ns i p
   count-one i p l n = put-two ns i (getD ns i 0 - 1) p (omega arith) ∙ any-some (getD ns i 0) _ ns n
 
-  -- the two numbers of a limit behind one element more
+  -- the two numbers of a limit after one element more
   fewer-is : (k q p : ℕ) → (k ≡ 0 → ⊥) → limit (k - 1) p ≡ fewer k q p
   fewer-is zero q p n = absurd (n refl)
   fewer-is (suc k) q p n = limit-is (omega arith) refl

@@ -1,6 +1,6 @@
--- WHAT WAS SAID, PART BY PART: behind events it is the definitions' `the p`, in numbers. One law over the part p, for each of the three ways to go on.
+-- WHAT WAS SAID, PART BY PART: after events it is the definitions' `the p`, in numbers. One law over the part p, for each of the three ways to go on.
 --   wordOf o            the one element of a part, or none, as a word
---   saying-word         behind the events that only say something
+--   saying-word         after the events that only say something
 --   inside-word         inside a batch, for a part before the transaction
 --   step-word           for a part before the batch
 --   saying-mark         a mark stays

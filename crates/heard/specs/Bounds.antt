@@ -1,6 +1,6 @@
 -- WHAT KEEPS THE NUMBERS SMALL: no count is above the place that was reached, and no sum above as many amounts. Not to be believed.
 --   Within p st     at the place p
---   Sane t, Fit e   what a text tells is small; an element's kind fits its part
+--   Sane t, Fit e   what a text states is small; an element's kind fits its part
 use Prim.Native.Nat.{ℕ, _+_, _*_, _≤_, _<_}
 use mathlib.Core.Path.{_≡_}
 use Rattle.profile.specs.Limits.{mostCents}

@@ -1,7 +1,7 @@
 -- WHAT WAS HEARD, IN A ROW OF NUMBERS, as it is lent from event to event. Not to be believed: no promise to a caller speaks of it.
--- Four numbers for each part, at 4 × its number: its word. Behind them two for each first fault.
+-- Four numbers for each part, at 4 × its number: its word. After them two for each first fault.
 --   heardLength, flawSlot ..   how many numbers they are, where the first faults stand
---   Row, rowOf ns      what the numbers tell
+--   Row, rowOf ns      what the numbers say
 --   stateOf ns y s r   with the tally y and the tables s and r
 --   badIn, faultAt     a first fault in two numbers
 --   withSaid, withoutFrom, withBad, withBatchCounted, withTransactionCounted, withFault   what each of the stores does
@@ -34,7 +34,7 @@ faultSlot = 78
 abbrev pub heardLength : ℕ
 heardLength = 80
 
--- ─── what the numbers tell ───
+-- ─── what the numbers say ───
 
 abbrev pub wordAt : List ℕ → ℕ → Word
 wordAt ns p = record { mark = getD ns (4 * p) 0; start = getD ns (4 * p + 1) 0; length = getD ns (4 * p + 2) 0; worth = getD ns (4 * p + 3) 0 }

@@ -1,7 +1,7 @@
 -- WHAT WAS HEARD of a message so far, as the code keeps it, and its step for one event. Executable; that it is right is proofs/Right.
 --   ifTrue z a b, ifAny k a b   a where the test z holds, or k is not 0; else b
 --   when z p                    p where the test z holds; else none
---   Word, nothing, word t       what a part last said: 1, its text's start and length, and the number that it tells; all 0 where it said nothing
+--   Word, nothing, word t       what a part last said: 1, its text's start and length, and the number that it states; all 0 where it said nothing
 --   Limit, limitStep n l t      how many elements of the part n may still come before one is too many, and the place of the last one
 --   State                       what was said, part by part; first faults; the tally; the two lent tables
 --   settled, shut st            the open transaction added; the open batch closed too

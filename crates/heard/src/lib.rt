@@ -36,7 +36,7 @@ impl Part {
 
     pub const REMITTANCE: usize = 17;
 
-    // Behind the last.
+    // After the last.
     pub const END: usize = 18;
 }
 
@@ -53,7 +53,7 @@ impl Word {
     // How many bytes its text has.
     pub const LENGTH: usize = 2;
 
-    // The number that its text tells.
+    // The number that its text states.
     pub const WORTH: usize = 3;
 
     // How many they are.

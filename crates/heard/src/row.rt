@@ -1,4 +1,4 @@
-// The row of numbers in which what was heard is lent from event to event: four for each part, and behind them two for each first fault.
+// The row of numbers in which what was heard is lent from event to event: four for each part, and after them two for each first fault.
 ghost use mathlib.Core.Path.{_≡_};
 ghost use mathlib.Core.List.{List, [], _∷_};
 ghost use mathlib.Core.Option.{some};
@@ -71,7 +71,7 @@ fn fill_word(word: &mut [u64], start: usize, size: usize, worth: u64)
     word[Word::WORTH] = worth;
 }
 
-// A part says something: its text starts and is so long, and tells this number.
+// A part says something: where its text starts, how long it is, and the number that it states.
 pub fn say(heard: &mut [u64], part: usize, start: usize, size: usize, worth: u64)
     requires { ⌜ (length (now heard) ≡ heardLength) × (part < partsEnd) ⌝ }
     ensures { λ _. ⌜ rowOf (now (heard .exit)) ≡ withSaid (rowOf (now (heard .entry))) part (record { mark = 1; start = start; length = size; worth = worth }) ⌝ }

@@ -2,7 +2,7 @@
 --   every n p        p holds of each number below n
 --   below n p t c h  so it holds of c
 --   within a n p     the same of each number from a on, n of them
---   each p xs, of-each   p holds of each of xs; so what p tells holds of each
+--   each p xs, of-each   p holds of each of xs; so what p says holds of each
 use Prim.Native.Nat.{ℕ, zero, suc, _+_, _-_, _<_, _≤_}
 use native.Mathlib.Nat.{not-suc-le-zero}
 use native.Mathlib.Decide.{decLt}

@@ -4,7 +4,7 @@
 --   count-keep, length-keep, All-keep                            what is kept: how many pass a test, how many there are, each passed
 --   keep-ext, keep-true, keep-keep, map-keep                     by an equal test, by no test, by two tests, of a mapped list; map-id: mapped to itself
 --   All-append, All-map, All-take, All-drop, All-putIf           what holds of each; All-kept: also of each that is kept
---   concat-append                                                lists of lists, one behind the other
+--   concat-append                                                lists of lists, one after the other
 --   length-gather, All-gather, count-concat-gather               what is gathered
 use Prim.Native.Nat.{ℕ, zero, suc, _+_, _≤_}
 use native.Mathlib.Nat.{zero-add}
@@ -150,7 +150,7 @@ module _ {A : Type 0} (P : A → Type 0) where
   All-map Q [] f h = tt
   All-map Q (x ∷ xs) f h = (f x (h .0), All-map Q xs f (h .1))
 
--- ─── one behind the other ───
+-- ─── one after the other ───
 
 module _ {A : Type 0} where
   pub concat-append : (bs cs : List (List A)) → concat (bs ++ cs) ≡ concat bs ++ concat cs

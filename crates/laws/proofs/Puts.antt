@@ -1,7 +1,7 @@
 -- THE LAWS OF `putAt`.
 --   put-nil, put-append, put-all   nothing is put; one thing after another; all of a list over the whole of another
 --   length-put                     the length stays
---   get-before, get-behind, get-in   a number before what was put, behind it, and in it
+--   get-before, get-behind, get-in   a number before what was put, after it, and in it
 --   put-back                       what comes back of a part that was lent
 --   put-one, put-two, put-step     one store; two; one store of a copying loop
 --   row-of-sets                    a row of stores
@@ -35,7 +35,7 @@ put-append out at xs ys h =
     in
     rw (e, take-at (take at out ++ xs) _ _ n, d, append-assoc, append-assoc)
 
--- a number before what was put, behind it, and in it
+-- a number before what was put, after it, and in it
 pub get-before : (out xs : List ℕ) (at i : ℕ) → i < at → at ≤ length out → getD (putAt out at xs) i 0 ≡ getD out i 0
 unfolding putAt
 get-before out xs at i h room =
@@ -71,7 +71,7 @@ pub put-one : (l : List ℕ) (i v : ℕ) → i < length l → set l i v ≡ putA
 unfolding putAt
 put-one l i v h = rw (set-split l i v h, add-one)
 
--- two stores, one behind the other
+-- two stores, one after the other
 pub put-two : (l : List ℕ) (i v w : ℕ) → i + 1 < length l → set (set l i v) (i + 1) w ≡ putAt l i (v ∷ w ∷ [])
 put-two l i v w h =
     put-one (set l i v) (i + 1) w (simp length-set (omega arith))
@@ -82,7 +82,7 @@ put-two l i v w h =
 pub row-of-sets : (vs l : List ℕ) → length l ≡ length vs → sets l 0 vs ≡ vs
 row-of-sets vs l h = rw (sets-eq vs l 0 (omega arith), drop-of-length-le l {i = 0 + length vs} (omega arith), append-nil vs)
 
--- one store of a copying loop, with the rest still to be put behind it
+-- one store of a copying loop, with the rest still to be put after it
 pub put-step : (out xs : List ℕ) (at i : ℕ) → i < length xs → at < length out → putAt (set out at (getD xs i 0)) (at + 1) (drop (i + 1) xs) ≡ putAt out at (drop i xs)
 put-step out xs at i h room =
     rw (drop-step xs i h, put-one out at (getD xs i 0) room) (sym (put-append out at (getD xs i 0 ∷ []) (drop (i + 1) xs) (omega arith)))

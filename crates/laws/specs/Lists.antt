@@ -5,8 +5,8 @@
 --   count p xs    how many of xs pass the test p
 --   keep p xs     those of xs that pass the test p, in order
 --   All P xs      P holds of each of xs
---   concat bs     the lists of bs, one behind the other
---   gather f xs   what f makes of each of xs, one behind the other
+--   concat bs     the lists of bs, one after the other
+--   gather f xs   what f makes of each of xs, one after the other
 use Prim.Native.Nat.{ℕ, _+_}
 use mathlib.Core.Bool.{Bool, true, false}
 use mathlib.Core.List.{List, [], _∷_, _++_}

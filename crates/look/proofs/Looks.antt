@@ -2,7 +2,7 @@
 --   ranked-byte              a byte of a rank, as the table has it
 --   plain-text               the bytes of a rank, up to a tag, are the text
 --   seen-identifier, seen-name, seen-remittance   such a text is good by its rule
---   look-told                what a look that says good tells
+--   look-told                what holds where a look says good
 use Prim.Native.Nat.{ℕ, suc, _+_, _-_, _<_, _≤_}
 use native.Mathlib.Nat.{not-suc-le-zero, le-of-suc-le-suc}
 use native.Mathlib.Omega.{arith}
@@ -104,6 +104,6 @@ module _ (s : Bytes) (at : ℕ) (room : at ≤ length s) (rule : Rule) (r : Look
   seen-remittance e =
       subst⁻¹ (λ (q : Rule). PlainLook 1 140 s at r → GoodLook q s at r) e (seen Remittance 1 140 s at (λ end w. plain-good 1 140 s at end room w (omega arith)) r)
 
--- what a look that says good tells
+-- what holds where a look says good
 pub look-told : (rule : Rule) (s : Bytes) (at end : ℕ) (r : Look) → r ≡ Good end → GoodLook rule s at r → (end ≡ textEnd s at) × (rules.judged rule (textTo s at end) ≡ judged.Good 0)
 look-told rule s at end r e w = subst (GoodLook rule s at) e w

@@ -1,4 +1,4 @@
-// One look over a text of letters, with the rank of each byte at hand in a lent table: it tells a good text and its end at once. Of every other text it tells
+// One look over a text of letters, with the rank of each byte at hand in a lent table: it finds a good text and its end at once. Of every other text it says
 // nothing, and its rule judges it.
 ghost use mathlib.Core.Path.{_≡_};
 ghost use Prim.Native.Nat.{_+_, _≤_};
@@ -9,15 +9,15 @@ ghost use Rattle.marks.specs.Ranks.{atLeast, ranked};
 ghost use Rattle.look.specs.Look.{PlainLook, GoodLook};
 use text::Rule;
 
-// What one look tells.
+// What one look says.
 pub enum Look {
-    // The text ends here, and is good; it tells no number.
+    // The text ends here, and is good; it states no number.
     Good(usize),
     // Nothing.
     Unsure,
 }
 
-// A byte whose rank is `least` at least. The table `t` begins with the ranks of all bytes.
+// A byte whose rank is at least `least`. The table `t` begins with the ranks of all bytes.
 fn is_ranked(t: &[u8], c: u8, least: u8) -> bool
     requires { ⌜ T (ranked (now t)) ⌝ }
     ensures { λ r. ⌜ r ≡ atLeast least c ⌝ }

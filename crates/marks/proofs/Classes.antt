@@ -35,7 +35,7 @@ class-part p s n i e = T-true (all p (take n (drop i s))) (all-take p n (drop i 
 pub class-span : (p : ℕ → Bool) (s : Bytes) → all p s ≡ eqb (span p s) (length s)
 class-span p s = eqb-cases (λ z. all p s ≡ z) (span p s) (length s) (span-whole p s) (span-part p s)
 
--- a loop that goes through every byte, b telling of those before i
+-- a loop that goes through every byte, b being the answer for those before i
 module _ (p : ℕ → Bool) (s : Bytes) (i : ℕ) where
   pub all-and-go : i < length s → (b : Bool) → b && all p (drop i s) ≡ (b && p (getD s i 0)) && all p (drop (i + 1) s)
   all-and-go h true = rw (drop-step s i h)

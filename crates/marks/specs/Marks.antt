@@ -37,7 +37,7 @@ letter c = has letters c
 
 -- ─── slashes: 47 is `/` ───
 
--- the byte c stands twice running
+-- the byte c stands twice in a row
 abbrev pub twice : ℕ → Bytes → Bool
 twice c [] = false
 twice c (d ∷ s) = (eqb c d && eqb c (getD s 0 0)) || twice c s

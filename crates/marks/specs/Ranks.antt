@@ -1,7 +1,7 @@
--- THE RANK OF A BYTE, by which a run of letters is told in one look at a table. Not to be believed: no promise to a caller speaks of it.
+-- THE RANK OF A BYTE, by which one look at a table finds a run of letters. Not to be believed: no promise to a caller speaks of it.
 --   rank c            2 for a byte of the letter set but `/`, 1 for `/`, 0 for every other byte
 --   ranksFrom c n     the ranks of the bytes from c on, n of them
---   atLeast k c       the rank of c is k at least
+--   atLeast k c       the rank of c is at least k
 --   ranked t          the table t begins with the ranks of all bytes
 use Prim.Native.Nat.{ℕ, zero, suc}
 use mathlib.Core.Bool.{Bool, true, false}

@@ -51,11 +51,11 @@ case s n p = record { message = s; slips = 24; rows = 8; number = n; place = p }
 
 abbrev pub cases : List Case
 cases =
-    -- accepted: with exactly the room needed, with white space behind the root, and without the batch's sum
+    -- accepted: with exactly the room needed, with white space after the root, and without the batch's sum
     case printed 0 0
     ∷ case (printed ++ ascii " \r\n\t") 0 0
     ∷ case (edit printed 394 26 "") 0 0
-    -- 2: a beginning; without ChrgBr; without the header's CtrlSum; a comment; a space in a tag; a byte behind the root
+    -- 2: a beginning; without ChrgBr; without the header's CtrlSum; a comment; a space in a tag; a byte after the root
     ∷ case (take 1742 printed) 2 1742
     ∷ case (edit printed 727 21 "") 2 729
     ∷ case (edit printed 214 26 "") 2 215

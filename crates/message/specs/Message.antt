@@ -1,7 +1,7 @@
 -- WHAT A MESSAGE SAYS, from the events of its tree. To be believed; definitions only.
 --   textOf s e, judgedAs k x   the text of the event e in the message s; a text judged by the kind of its element
 --   told s e, tell s es        an event, and all events, with what their texts are judged
---   worth t                    the number that a text tells; 0 where it tells none or breaks its rule
+--   worth t                    the number that a text states; 0 where it states none or breaks its rule
 --   is, before, parts, allOf, lastOr, the   the elements of a part, as Sections says
 --   Transaction, Batch         what is said of each; transactionOf, batchOf: from the events of its part
 --   batchesOf ts               the batches of a message, in order
@@ -104,7 +104,7 @@ batchesOf ts = map batchOf (parts part.batch ts)
 
 -- ─── 4. Totals ───
 
--- what a text tells; nothing is told where there is none
+-- what a text states; 0 where there is none
 abbrev pub worthOf : Option Told → ℕ
 worthOf none = 0
 worthOf (some t) = worth t

@@ -58,7 +58,7 @@ abbrev pub firstBroken : List Told → Option Fault
 firstBroken [] = none
 firstBroken (t ∷ ts) = orElse (broken (t .judged) (t .start)) (firstBroken ts)
 
--- the start of a declaration that tells another number; an absent one tells none
+-- the start of a declaration that states another number; an absent one states none
 abbrev pub differs : Option Told → ℕ → Option ℕ
 differs none n = none
 differs (some t) n = unless (eqb (worth t) n) (t .start)
@@ -106,7 +106,7 @@ abbrev pub startAndLength : Option Told → List ℕ
 startAndLength none = 0 ∷ 0 ∷ []
 startAndLength (some t) = t .start ∷ t .length ∷ []
 
--- 1 or 0 for a declaration, then what it tells or 0
+-- 1 or 0 for a declaration, then what it states or 0
 abbrev pub declared : Option Told → List ℕ
 declared none = 0 ∷ 0 ∷ []
 declared (some t) = 1 ∷ worth t ∷ []

@@ -1,8 +1,8 @@
 -- THE TEXTS OF A LINE: where they stand, and how long they are, the length being one byte of the line.
 --   byte-small                a byte that two digits stand for is at most 255
 --   text-short                a text is at most 255 bytes long
---   text-has                  a line that has a text holds the frame that is told
---   text-told                 the part that is told is the text's
+--   text-has                  a line that has a text holds the frame that is named
+--   text-told                 the part that is answered is the text's
 --   text-within, text-is      the part of a text is within the line, and its digits stand for the text
 --   text-none, text-some      the text is empty exactly where its part is
 use Prim.Native.Nat.{ℕ, zero, suc, _+_, _-_, _*_, _<_, _≤_}
@@ -43,7 +43,7 @@ text-short n i line =
     each-short (textsOf (frameOf n) (unhex line)) i
     (texts-short ((frameOf n) .texts) (drop (1 + (frameOf n) .lead) (unhex line)) (All-drop (λ b. b ≤ 255) (1 + (frameOf n) .lead) (unhex line) (byte-small line)))
 
--- ─── where a text stands, as a function tells it ───
+-- ─── where a text stands, as a function answers it ───
 
 pub text-has : {f : Frame} (n i : ℕ) (s : Bytes) → f ≡ frameOf n → Has n i s → (framed f s ≡ true) × (i < f .texts)
 text-has n i s e h = rw e (h .is, h .there)

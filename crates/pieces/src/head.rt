@@ -60,7 +60,7 @@ pub fn put_totals(
     )
 }
 
-// Word n of words that stand one behind the other, each of four bytes but the last, which may have fewer; nothing where
+// Word n of words that stand one after the other, each of four bytes but the last, which may have fewer; nothing where
 // there are not so many.
 fn put_word(out: &mut [u8], at: usize, words: &[u8], n: u8) -> usize
     requires { ⌜ at + 4 < 2 ^ 32 ⌝ }

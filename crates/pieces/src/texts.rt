@@ -41,7 +41,7 @@ pub fn put_text(out: &mut [u8], at: usize, line: &[u8], number: usize, i: usize)
     put_part(out, at, line, number, i, part)
 }
 
-// Bytes, and a text behind them.
+// Bytes, and a text after them.
 pub fn put_behind(
     out: &mut [u8],
     at: usize,

@@ -5,7 +5,7 @@ pub fn print(text: &[u8]) {
     io::write_all(STDOUT_FILENO, text);
 }
 
-// A number, behind a space.
+// A number, after a space.
 pub fn print_number(n: u64) {
     print(b" ");
     io::print_decimal(STDOUT_FILENO, n);

@@ -1,4 +1,4 @@
--- A REFUSAL IS KNOWN BY ITS NUMBER, ITS PLACE AND ITS FLAW: each has a number of its own, so it is read back from what it is told as.
+-- A REFUSAL IS KNOWN BY ITS NUMBER, ITS PLACE AND ITS FLAW: each has a number of its own, so it is read back from what it is reported as.
 --   fault-once, list-fault-once
 use Prim.Native.Nat.{ℕ, _-_}
 use mathlib.Core.List.{[], _∷_}

@@ -1,6 +1,6 @@
 -- THE REFUSALS: document 01's number and place of each case. To be believed; definitions only.
---   Fault, fault n p, flawed n f p   a refusal as document 01 tells it, its number and its place; beside them the flaw of a text
---   faultOf, listFaultOf             what each refusal of the check, and of a day list, is told as
+--   Fault, fault n p, flawed n f p   a refusal as document 01 has it, its number and its place; beside them the flaw of a text
+--   faultOf, listFaultOf             what each refusal of the check, and of a day list, is reported as
 --   numberOf, placeOf, listNumberOf, listPlaceOf   its number, and its place
 use Prim.Native.Nat.{ℕ, _+_}
 use mathlib.Core.Option.{Option, none, some}
@@ -50,7 +50,7 @@ listFaultOf ListTooLong = fault 21 0
 listFaultOf Ceiling = fault 22 0
 listFaultOf (NotAFrame line) = fault 23 line
 listFaultOf (NoCollection lines) = fault 24 lines
-listFaultOf TooManyCollections = fault 25 (mostCollections + 2)  -- 1,002: behind the creditor line and a thousand collections
+listFaultOf TooManyCollections = fault 25 (mostCollections + 2)  -- 1,002: after the creditor line and a thousand collections
 listFaultOf (Value f line) = flawed 26 f line
 listFaultOf (BatchesNeeded n) = fault 27 n
 listFaultOf (OutputTooShort n) = fault 28 n

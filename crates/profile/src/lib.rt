@@ -339,7 +339,7 @@ pub enum ListRefusal {
 }
 
 impl ListRefusal {
-    // The line of the first collection that is one too many: behind the creditor line and the most collections.
+    // The line of the first collection that is one too many: after the creditor line and the most collections.
     pub const FIRST_TOO_MANY: usize = Profile::COLLECTIONS + 2;
 
     // Document 01's number.

@@ -1,5 +1,5 @@
 -- DEMAND 2, as definitions: what belongs to the profile, and that every declared count and sum equals the exact one. To be believed.
---   Agrees d n      a declaration is absent, or tells the number n
+--   Agrees d n      a declaration is absent, or states the number n
 --   AllAgree ts     every declared count and sum, per batch and overall, is the exact one
 --   InProfile ts    what the message says meets no refusal of 3, 4 and 5
 --   Enough r ts     the tables are long enough

@@ -3,7 +3,7 @@
 --   wrote-one, wrote-part    one byte; a part of the output that was lent and has come back as the bytes
 --   wrote-short              no room
 --   decimal-last, decimal-more    one digit; one digit more. length-decimal, length-euros: how many bytes at most
---   store-front              the part behind a store, with the byte that was stored
+--   store-front              the part from a store on, with the byte that was stored
 use Prim.Native.Nat.{ℕ, zero, suc, _+_, _-_, _/_, _≤_, _<_}
 use native.Mathlib.Omega.{arith}
 use mathlib.Core.Bool.{Bool, true, false}

@@ -1,5 +1,5 @@
 -- WHAT A BYTE WRITER PROMISES. Not to be believed: the promise of `write` is write/specs/Write.
---   Wrote out out′ at r bs   a writer of the bytes bs, from the place `at` on: it answers the place behind them; where there is room they stand there and nothing else changes
+--   Wrote out out′ at r bs   a writer of the bytes bs, from the place `at` on: it answers the place after them; where there is room they stand there and nothing else changes
 use Prim.Native.Nat.{ℕ, _+_, _≤_}
 use mathlib.Core.Path.{_≡_}
 use lib.ListN.{length}

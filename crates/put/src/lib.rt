@@ -1,5 +1,5 @@
-// Byte writers: each takes the output, the place and what to write, and answers the place behind it, whether or not there is room. Where there is room the bytes
-// stand there, and nothing else changes. So a run on an empty part of the output tells the bytes needed, by the very same code.
+// Byte writers: each takes the output, the place and what to write, and answers the place after it, whether or not there is room. Where there is room the bytes
+// stand there, and nothing else changes. So a run on an empty part of the output gives the bytes needed, by the very same code.
 ghost use mathlib.Core.Path.{_≡_};
 ghost use mathlib.Core.List.{[], _∷_};
 ghost use Prim.Native.Nat.{_+_, _≤_, _<_, _^_};

@@ -1,5 +1,5 @@
--- WHAT IS TOLD IS SMALL: an amount, a scheme and a sequence, whatever the text.
---   amount-le, scheme-le, sequence-le   what a text of the rule tells
+-- WHAT IS STATED IS SMALL: an amount, a scheme and a sequence, whatever the text.
+--   amount-le, scheme-le, sequence-le   what a text of the rule states
 --   told-sane                           every event that is fit is sane
 use Prim.Native.Nat.{ℕ, suc, _+_, _≤_}
 use Prim.Native.String.{String}

@@ -1,5 +1,5 @@
 -- A TURN OF THE LOOP OVER CHILDREN IN WHICH A CHILD STANDS, in plain variables: the same whether the child is a text or holds elements.
---   turn-lost, turn-read                         the child was not read; it was, up to p, and what the loop keeps is kept behind it
+--   turn-lost, turn-read                         the child was not read; it was, up to p, and what the loop keeps is kept after it
 --   text-turn-lost, text-turn-fine, text-turn    the child is a text: that, and that the numbers stay small
 --   element-turn-lost, element-turn              it holds elements
 use Prim.Native.Nat.{ℕ, _+_, _<_, _≤_}

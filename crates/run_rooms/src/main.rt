@@ -1,5 +1,5 @@
 // The check of the message on standard input with tables that are too short by one number, and with tables that are just long enough. Both tables are printed
-// whole: a refusal leaves them as they were, and what stands behind the last row stays.
+// whole: a refusal leaves them as they were, and what stands after the last row stays.
 use libc::STDIN_FILENO;
 use profile::Profile;
 

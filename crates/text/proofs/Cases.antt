@@ -113,7 +113,7 @@ pub creditor-identifiers : CreditorIdentifier judges (
     ∷ [])
 creditor-identifiers = refl
 
--- ─── codes: each tells its place ───
+-- ─── codes: each states its place ───
 
 pub codes :
     Method judges (("DD", Good 0) ∷ ("dd", Bad Code) ∷ ("D", Bad Code) ∷ ("DDD", Bad Code) ∷ ("", Bad Code) ∷ [])

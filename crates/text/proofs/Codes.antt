@@ -1,5 +1,5 @@
--- ONE OF THE WORDS: t tells whether the text is the word at the place n, and j what the words behind it decide.
---   word-on   what is known of the words behind it stands in what is judged
+-- ONE OF THE WORDS: t says whether the text is the word at the place n, and j what the words after it decide.
+--   word-on   what is known of the words after it stands in what is judged
 use Prim.Native.Nat.{ℕ}
 use mathlib.Core.Bool.{Bool, true, false}
 use mathlib.Core.Path.{_≡_, ap, _∙_}

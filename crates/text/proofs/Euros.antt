@@ -1,12 +1,12 @@
--- SUMS AND AMOUNTS: what stands behind the whole euros, and the two together.
---   tail s                                what `behind_point` tells of the bytes behind the whole euros
+-- SUMS AND AMOUNTS: what stands after the whole euros, and the two together.
+--   tail s                                what `behind_point` answers of the bytes after the whole euros
 --   tail-none                             of no bytes
 --   tail-point, tail-short, tail-long, tail-other   of bytes without the point, of too few, of too many, of others than digits
 --   behind-all, decimals-so               of a point and digits
 --   one-behind, two-behind                the cents that one digit is worth, and that two are
 --   whole-le, whole-digits                the whole euros are a part of the text, and digits
 --   euros-few, euros-many                 they have too few digits, too many
---   euros-bad, euros-good, euros-under    what stands behind them decides; the cents are below 10 to the 17th
+--   euros-bad, euros-good, euros-under    what stands after them decides; the cents are below 10 to the 17th
 --   amount-bad, amount-low, amount-high, amount-good   an amount by its text, and by its cents
 use Prim.Native.Nat.{ℕ, suc, _+_, _-_, _*_, _^_, _≤_, _<_}
 use native.Mathlib.Omega.{arith}
@@ -30,7 +30,7 @@ use Rattle.text.specs.declared.Judged.the-variants.{Good, Bad}
 use Rattle.text.specs.Rules.{must, decimals, hundredths, inEuros, cents, amount}
 use Rattle.text.proofs.Musts.{between-under, between-over, between-in, must-test, good-is, bad-stays}
 
--- ─── behind the whole euros ───
+-- ─── after the whole euros ───
 
 abbrev pub tail : Bytes → Judged
 tail s = must (decimals s) Number (Good (hundredths s))
@@ -77,7 +77,7 @@ two-behind (b ∷ c ∷ []) h = omega arith
 two-behind (b ∷ c ∷ d ∷ []) h = omega arith
 two-behind (b ∷ c ∷ d ∷ e ∷ s) h = omega arith
 
--- the digits behind the point, and the first of them
+-- the digits after the point, and the first of them
 behind-digits : (c : ℕ) (s : Bytes) → T (decimals (c ∷ s)) → T (all digit s)
 behind-digits c s t = and-r (between 1 2 (length s)) (all digit s) (and-r (eqb c 46) (between 1 2 (length s) && all digit s) t)
 

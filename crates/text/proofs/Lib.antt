@@ -1,6 +1,6 @@
 -- Musts    a test and what it decides
 -- Plains   plain texts and identifiers
--- Euros    sums and amounts: what stands behind the whole euros, and the two together
+-- Euros    sums and amounts: what stands after the whole euros, and the two together
 -- Days     the days of a month, and the parts of a date and of a time of day
 -- Shapes   a front that fits a pattern and a rest of a class; what an IBAN leaves
 -- Codes    one of the words

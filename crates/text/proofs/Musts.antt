@@ -1,6 +1,6 @@
 -- A TEST AND WHAT IT DECIDES.
 --   between-under, between-over, between-in   a number is below its bounds, above them, or within
---   must-test, good-is                        where a good judgement comes out, the test held, and the number told is the one that comes out
+--   must-test, good-is                        where a good judgement comes out, the test held, and the number stated is the one that comes out
 --   bad-stays                                 where a bad one comes out, it does so of each test that fails with this one
 use Prim.Native.Nat.{ℕ, _≤_, _<_}
 use mathlib.Core.Bool.{Bool, true, false, and-false}

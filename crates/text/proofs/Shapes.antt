@@ -1,9 +1,9 @@
 -- A TEXT OF A FRONT THAT FITS A PATTERN AND A REST OF A CLASS, as an IBAN and a creditor identifier are. The code lends the rest as a part up to the end.
 --   shaped-short, shaped-long    it is too short, too long
---   shaped-front, shaped-run     the front does not fit; it does, and the run of the class behind it decides
+--   shaped-front, shaped-run     the front does not fit; it does, and the run of the class after it decides
 --   shaped-longer, shaped-fits, shaped-all   of a text that is shaped: it is longer than the front, its front fits, its rest is of the class
 --   front-letters                the front of an IBAN is of letters and digits
---   leaves-twice                 the remainder of the rest, and then of the front behind it, is what an IBAN leaves
+--   leaves-twice                 the remainder of the rest, and then of the front after it, is what an IBAN leaves
 --   fits-differ                  a text that fits a pattern is no word of another length
 use Prim.Native.Nat.{ℕ, _-_, _≤_, _<_, _%_}
 use native.Mathlib.Omega.{arith}

@@ -1,10 +1,10 @@
 -- THE TEXT RULES of document 01, section "Texts", in its order. To be believed; definitions only.
--- A rule judges a text: `Good n`, n being the number that the text tells (0 where it tells none), or `Bad` with the kind of the first test that fails.
+-- A rule judges a text: `Good n`, n being the number that the text states (0 where it states none), or `Bad` with the kind of the first test that fails.
 --   identifier, name, remittance         plain texts of the letter set
---   count, sum, amount                   NbOfTxs tells its number, CtrlSum and InstdAmt their cents
---   date, time                           a date tells year, month and day as the number yyyymmdd
+--   count, sum, amount                   NbOfTxs states its number, CtrlSum and InstdAmt their cents
+--   date, time                           a date states year, month and day as the number yyyymmdd
 --   iban, bic, creditorIdentifier        shapes, and the check digits of an IBAN
---   method .. notProvided                codes: each tells its place, from 0, among the words listed
+--   method .. notProvided                codes: each states its place, from 0, among the words listed
 --   judged r s                           the text s judged by the rule r
 use Prim.Native.Nat.{ℕ, suc, _+_, _-_, _*_, _%_}
 use Prim.Native.String.{String}
@@ -32,7 +32,7 @@ abbrev pub good : Judged → Bool
 good (Good n) = true
 good (Bad f) = false
 
--- what it tells, 0 where it breaks its rule
+-- what it states, 0 where it breaks its rule
 abbrev pub numberTold : Judged → ℕ
 numberTold (Good n) = n
 numberTold (Bad f) = 0
@@ -57,7 +57,7 @@ remittance s = plain 140 s
 abbrev pub count : Bytes → Judged
 count s = must (between 1 15 (length s) && all digit s) Number (Good (value s))
 
--- what may stand behind the whole euros: nothing, or a point and one or two digits; and the cents that it is worth
+-- what may stand after the whole euros: nothing, or a point and one or two digits; and the cents that it is worth
 abbrev pub decimals : Bytes → Bool
 decimals [] = true
 decimals (c ∷ s) = eqb c 46 && (between 1 2 (length s) && all digit s)

@@ -1,5 +1,5 @@
 -- A TEXT OF A FRONT AND A REST, as an IBAN and a creditor identifier are, for the code. Not to be believed: no promise to a caller speaks of it.
---   shaped p m q s   the front of s fits the pattern p, and behind it stand 1 to m bytes of the class q
+--   shaped p m q s   the front of s fits the pattern p, and after it stand 1 to m bytes of the class q
 use Prim.Native.Nat.{ℕ}
 use mathlib.Core.Bool.{Bool, _&&_}
 use lib.ListN.{length, take, drop}

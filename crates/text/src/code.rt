@@ -1,4 +1,4 @@
-// The fixed codes. A code tells its place, from 0, among the words that are allowed.
+// The fixed codes. A code states its place, from 0, among the words that are allowed.
 ghost use mathlib.Core.Path.{_≡_};
 ghost use mathlib.Core.Bool.{true, false};
 ghost use Rattle.laws.specs.Bytes.{same};
@@ -8,7 +8,7 @@ ghost use Rattle.text.specs.declared.Judged.the-variants.{Good, Bad};
 use crate::Judged;
 use profile::Flaw;
 
-// A text that may be the word at a place; where it is not, it is judged by the words behind that place.
+// A text that may be the word at a place; where it is not, it is judged by the words after that place.
 fn word_at(place: u64, word: &[u8], text: &[u8], behind: Judged) -> Judged
     ensures { λ r. ⌜ r ≡ elim (same (now (text .entry)) (now (word .entry))) [ true ↦ Good place | false ↦ behind ] ⌝ }
 {

@@ -14,7 +14,7 @@ pub mod number;
 pub mod plain;
 pub mod shape;
 
-// What a text is judged: good, with the number that it tells (a count, cents, yyyymmdd of a date, a code's place among its words; else 0), or of which kind
+// What a text is judged: good, with the number that it states (a count, cents, yyyymmdd of a date, a code's place among its words; else 0), or of which kind
 // the first test is that it fails.
 pub enum Judged {
     Good(u64),
@@ -71,7 +71,7 @@ pub fn judge(rule: Rule, text: &[u8]) -> Judged
         Rule::Count => number::count(text),
         Rule::Sum => number::sum(text),
         Rule::Amount => number::amount(text),
-        // Lent anew: a slice that is handed on as it came to a call of its own is copied for every rule first.
+        // Lent anew: a slice that is handed on as it came is copied at the function's entry, whatever the rule.
         Rule::Date => date::date(&text[..]),
         Rule::Time => date::time(text),
         Rule::Iban => shape::iban(text),

@@ -23,7 +23,7 @@ pub fn count(text: &[u8]) -> Judged
     Judged::Good(marks::number(text))
 }
 
-// What stands behind the whole euros: nothing, or a point and one or two digits. It tells their cents.
+// What stands after the whole euros: nothing, or a point and one or two digits. It states their cents.
 fn behind_point(text: &[u8]) -> Judged
     ensures { λ r. ⌜ r ≡ must (decimals (now (text .entry))) Number (Good (hundredths (now (text .entry)))) ⌝ }
 {
@@ -50,7 +50,7 @@ fn behind_point(text: &[u8]) -> Judged
     Judged::Good(behind)
 }
 
-// 1 to `longest` digits, then optionally a point and 1 or 2 digits. It tells the cents.
+// 1 to `longest` digits, then optionally a point and 1 or 2 digits. It states the cents.
 fn euro_text(text: &[u8], longest: usize) -> Judged
     requires { ⌜ longest ≤ 15 ⌝ }
     ensures { λ r. ⌜ r ≡ must (inEuros longest (now (text .entry))) Number (Good (cents (now (text .entry)))) ⌝ }

@@ -7,7 +7,7 @@ use crate::Judged;
 use marks::Class;
 use profile::Flaw;
 
-// The front has the shape of the pattern, and behind it stand 1 to `longest` bytes of the class.
+// The front has the shape of the pattern, and after it stand 1 to `longest` bytes of the class.
 fn is_shaped(text: &[u8], pattern: &[u8], longest: usize, class: Class) -> bool
     ensures { λ r. ⌜ r ≡ shaped (now (pattern .entry)) longest (of class) (now (text .entry)) ⌝ }
 {

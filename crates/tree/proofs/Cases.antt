@@ -31,7 +31,7 @@ beginnings =
     ∷ (12 ∷ [], 0)
     ∷ (0 ∷ [], 0)
     ∷ (32 ∷ 0xC2 ∷ 0xA0 ∷ [], 1)
-    -- a second declaration, one behind a space, one behind a byte order mark, one in single quotes, one that says more
+    -- a second declaration, one after a space, one after a byte order mark, one in single quotes, one that says more
     ∷ (declaration ++ declaration, 39)
     ∷ (32 ∷ declaration, 2)
     ∷ (0xEF ∷ 0xBB ∷ 0xBF ∷ declaration, 0)

@@ -9,7 +9,7 @@ use Rattle.tree.specs.Form.{end, Elem, Items, Tree, Kids, event, part, o
 use Rattle.tree.specs.declared.Event.{Event}
 
 abbrev mutual
-  -- the bytes of a tree, before x: opening tag, text or white space, children each with white space behind it, closing tag
+  -- the bytes of a tree, before x: opening tag, text or white space, children each with white space after it, closing tag
   pub bytes : {e : Elem} → Tree e → Bytes → Bytes
   bytes {e} (tree u ks) x = opening e ++ (u .run ++ kidBytes ks (closing e) x)
 
@@ -19,7 +19,7 @@ abbrev mutual
   kidBytes (take t w ks) g x = bytes t (w .run ++ kidBytes ks g x)
 
 abbrev mutual
-  -- the events of a tree that begins at p, before those that f has for the place behind it
+  -- the events of a tree that begins at p, before those that f has for the place after it
   pub events : {e : Elem} → Tree e → ℕ → (ℕ → List Event) → List Event
   events {e} (tree u ks) p f =
       event (part e) (kind e) p (p + length (opening e)) (length (u .run)) ∷ kidEvents ks (closing e) (p + length (opening e) + length (u .run)) f

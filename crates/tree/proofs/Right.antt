@@ -34,7 +34,7 @@ sound-map : {A B : Type 0} (f : A → Bytes → Bytes) (h : B → Bytes → Byte
 sound-map f h c e s (got m es) g = (c (g .0), g .1, λ x. e (g .0) x ∙ g .2 x)
 sound-map f h c e s (lost n) g = (c (g .0), λ x. rw (e (g .0) x) (g .1 x))
 
--- behind a word t
+-- after a word t
 sound-behind : {A B : Type 0} (f : A → Bytes → Bytes) (h : B → Bytes → Bytes) (t s : Bytes) (es : List Event) (c : A → B) → ((a : A) (x : Bytes) → h (c a) x ≡ t ++ f a x)
     → (g : Got) → SoundG A f s g → SoundG B h (t ++ s) (pass (length t) es g)
 sound-behind f h t s es c e (got m es′) g =
@@ -54,7 +54,7 @@ runAt k r = record { run = front (inRun k) r; fits = front-fits (inRun k) r }
 abbrev pub SoundBy : Reads → Type 0
 SoundBy f = (is : Items) (e : Elem) (p : ℕ) (s : Bytes) → SoundG (Kids is) (λ ks x. kidBytes ks (closing e) x) s (f is e p s)
 
--- behind a word t and the run there, f reads the children of e
+-- after a word t and the run there, f reads the children of e
 sound-on : (f : Reads) → SoundBy f → {B : Type 0} (h : B → Bytes → Bytes) (k : Kind) (t r : Bytes) (es : List Event) (is : Items) (e : Elem) (p : ℕ) (c : Kids is → B)
     → ((ks : Kids is) (x : Bytes) → h (c ks) x ≡ t ++ (front (inRun k) r ++ kidBytes ks (closing e) x))
     → SoundG B h (t ++ r) (pass (length t + span (inRun k) r) es (f is e p (drop (span (inRun k) r) r)))
@@ -108,7 +108,7 @@ sound (suc k) is e p s = sound-choice (λ is′ e′ p′ s′. kidsBy k is′ e
 
 -- ─── the second half ───
 
--- a word (before x), with its events (before those of the place behind it): it parts from s within what was read, or is what was read; or it parts within the place
+-- a word (before x), with its events (before those of the place after it): it parts from s within what was read, or is what was read; or it parts within the place
 abbrev pub UniqueG : (Bytes → Bytes) → (ℕ → (ℕ → List Event) → List Event) → ℕ → Bytes → Got → Type 0
 UniqueG w v p s (got m es) = ((x : Bytes) → Off s (w x) m) ⊎ (((x : Bytes) → w x ≡ takeN m s ++ x) × ((f : ℕ → List Event) → v p f ≡ es ++ f (p + m)))
 UniqueG w v p s (lost n) = (x : Bytes) → Off s (w x) n
@@ -137,7 +137,7 @@ abbrev pub Pos : Bytes → Got → Type 0
 Pos s (got m es) = (1 ≤ m) × (m ≤ length s)
 Pos s (lost n) = Unit {0}
 
--- an answer is at or behind m
+-- an answer is at or beyond m
 abbrev pub From : ℕ → Got → Type 0
 From m (got m′ es) = m ≤ m′
 From m (lost n) = m ≤ n
@@ -174,7 +174,7 @@ pos-of c s m (got m′ es) h k so = (omega arith, so .1)
 pos-of c s m (lost n) h k so = tt
 
 module _ (k : ℕ) (f : Reads) (ih : UniqueBy k f) where
-  -- behind a word t and a run of the kind j, the children ks of e
+  -- after a word t and a run of the kind j, the children ks of e
   unique-on : (w : Bytes → Bytes) (v : ℕ → (ℕ → List Event) → List Event) (j : Kind) (t r : Bytes) (u : Run j) (vs : ℕ → List Event) (is : Items) (e : Elem) (p : ℕ)
       (ks : Kids is) → length (drop (span (inRun j) r) r) ≤ k → T (okItems is (closing e))
       → ((x : Bytes) → w x ≡ t ++ (u .run ++ kidBytes ks (closing e) x))

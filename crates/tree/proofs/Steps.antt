@@ -57,6 +57,6 @@ pub front-fits : (p : ℕ → Bool) (s : Bytes) → T (all p (front p s))
 unfolding front
 front-fits p s = all-span p s
 
--- fewer bytes are left behind a tag and a run
+-- fewer bytes are left after a tag and a run
 pub shorter : (t r s : Bytes) (k n : ℕ) → 1 ≤ length t → s ≡ t ++ r → length s ≤ suc k → length (drop n r) ≤ k
 shorter t r s k n g e h = omega (arith, length-drop n r, length-append t r, ap length e)

@@ -68,7 +68,7 @@ unique-run k t r u w es o st h = go (span-parts (inRun k) r (u .run) (u .fits))
         rw (y, z, append-assoc t (u .run) w) at x
     go (inr o′) = unique-off (t ++ r) (t ++ (u .run ++ w)) (length t + n) es o (off-append t r (u .run ++ w) n (o′ w st))
 
--- ─── the root and white space behind it ───
+-- ─── the root and white space after it ───
 
 abbrev Body : Elem → Type 0
 Body root = Tree root × Run Holds

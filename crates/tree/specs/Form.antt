@@ -26,7 +26,7 @@ pub data How : Type 0 where
   thisOrNext : How  -- either this one, or the next item of the list: `a | b` is `thisOrNext a` before `once b`
 
 mutual
-  -- an element: the part that it plays, its name, what its opening tag has behind the name, its kind, its children
+  -- an element: the part that it plays, its name, what its opening tag has after the name, its kind, its children
   pub data Elem : Type 0 where
     elem : ℕ → Bytes → Bytes → Kind → Items → Elem
 
@@ -98,7 +98,7 @@ mutual
   pub data Tree : Elem → Type 0 where
     tree : {e : Elem} → Run (kind e) → Kids (items e) → Tree e
 
-  -- the children of an item list, each with white space behind it
+  -- the children of an item list, each with white space after it
   pub data Kids : Items → Type 0 where
     end : Kids none
     skip : {h : How} {e : Elem} {is : Items} → T (skips h) → Kids is → Kids (item h e is)
@@ -116,7 +116,7 @@ abbrev mutual
 
 -- ─── 3. What a tree says: an event for each element, in the order of their opening tags ───
 
--- the element's part and kind, the place of its `<`, the place behind its opening tag, and the length of its text (or white space) there
+-- the element's part and kind, the place of its `<`, the place after its opening tag, and the length of its text (or white space) there
 abbrev pub event : ℕ → Kind → ℕ → ℕ → ℕ → Event
 event p k a b n = record { part = p; kind = k; place = a; start = b; length = n }
 

@@ -55,6 +55,6 @@ debtorAccount = 16
 abbrev pub remittance : ℕ
 remittance = 17
 
--- behind the last
+-- after the last
 abbrev pub partsEnd : ℕ
 partsEnd = 18

@@ -22,7 +22,7 @@ pass m es (lost n) = lost (m + n)
 abbrev pub Reads : Type 0
 Reads = Items → Elem → ℕ → Bytes → Got
 
--- an element whose opening tag stands at p, with r behind that tag
+-- an element whose opening tag stands at p, with r after that tag
 abbrev pub element : Reads → Elem → ℕ → Bytes → Got
 element f c p r =
     let n = span (inRun (kind c)) r in
@@ -66,7 +66,7 @@ abbrev pub atEnd : List Event → Bytes → Res
 atEnd es [] = done es
 atEnd es (c ∷ s) = stuck 0
 
--- behind the root, which begins s: white space, and no more
+-- after the root, which begins s: white space, and no more
 abbrev pub finish : Bytes → Got → Res
 finish s (lost n) = stuck n
 finish s (got m es) = let n = span (inRun Holds) (drop m s) in shift (m + n) (atEnd es (drop n (drop m s)))

@@ -6,7 +6,7 @@ use lib.Dec.{eqb}
 use Rattle.laws.specs.Bytes.{Bytes}
 use Rattle.tree.specs.Form.{none, Elem, Items, opening, skips, after, item}
 
--- a word t held against the bytes s: the bytes behind it, or how many of its bytes s has before they part
+-- a word t held against the bytes s: the bytes after it, or how many of its bytes s has before they part
 pub data Eat : Type 0 where
   ate : Bytes → Eat
   miss : ℕ → Eat
@@ -21,7 +21,7 @@ eat (a ∷ t) [] = miss 0
 eat (a ∷ t) (b ∷ s) = elim (eqb a b) [ true ↦ oneMore (eat t s) | false ↦ miss 0 ]
 
 -- what stands at a place where a tag is due: a child and what may follow it, the closing tag, or neither
--- (each with the bytes behind the tag; where neither, how many bytes agree with the best candidate)
+-- (each with the bytes after the tag; where neither, how many bytes agree with the best candidate)
 pub data Choice : Type 0 where
   stop : ℕ → Choice
   close : Bytes → Choice

@@ -1,5 +1,5 @@
 -- THE ANSWER AND THE OUTPUT, case by case.
---   write-once                  an answer of the code is known by what it tells
+--   write-once                  an answer of the code is known by what it says
 --   Answered s c out a out′     a is the answer, and out′ the output afterwards
 --   answered-bad                the list is refused
 --   answered-many               too many batches are needed

@@ -1,5 +1,5 @@
 -- THE BATCHES ONE BY ONE.
---   up-go, up-end                    the numbers from k on, below m: k and those behind it; none
+--   up-go, up-end                    the numbers from k on, below m: k and those after it; none
 --   Tallied f most m k sum           the sum of f over the numbers below k, each at most `most`; tallied-start, tallied-on, tallied-end: a loop that adds
 --   batches-go, batches-end          what is left to write, from batch k on: its own bytes and the rest; nothing
 --   concat-count, concat-cents       how many collections the batches have, and their cents

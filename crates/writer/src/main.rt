@@ -1,5 +1,5 @@
 // Writes the message for the day list on standard input, at the ceiling that the argument says in digits. Prints
-//   the message, with nothing behind it
+//   the message, with nothing after it
 //   NO number place   the first of refusals 21 to 27
 //   TOO LONG          the list or its message has more than 65,536 bytes
 use libc::STDIN_FILENO;
@@ -14,7 +14,7 @@ const MOST: usize = 65536;
 
 // ─── the message ───
 
-// An output that is too short is the program's own.
+// 28 means that the program's own output is too short: the message is too long for it.
 fn print_refusal(refusal: ListRefusal) {
     let number = refusal.number();
     if number == 28 {

@@ -1,6 +1,6 @@
 -- TEXTS WITHOUT THE BYTE `<`: of such a text the tree leaves nothing out.
 --   clean s, Clean x, CleanCreditor cr   no byte of the text s is `<`; no text of the collection x, or of the creditor cr, has one
---   all-append                           every byte of two texts, one behind the other, is of a class
+--   all-append                           every byte of two texts, one after the other, is of a class
 --   decimal-cases, decimal-all           a written number by cases, and what holds of each of its digits
 --   keep-clean                           nothing of a clean text is left out
 --   digit-clean, decimal-clean, euros-clean, batch-id-clean, scheme-clean, sequence-clean   numbers and words are clean

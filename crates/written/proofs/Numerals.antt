@@ -1,4 +1,4 @@
--- WRITTEN NUMBERS AND WORDS ARE GOOD TEXTS, and tell what was written.
+-- WRITTEN NUMBERS AND WORDS ARE GOOD TEXTS, and state what was written.
 --   count-good       the count n, below 10 to the 15th
 --   sum-good         the sum of n cents, below 10 to the 17th
 --   amount-good      the amount of n cents, from 1 to the most

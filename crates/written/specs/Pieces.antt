@@ -1,7 +1,7 @@
 -- THE BYTES OF THE MESSAGE, PIECE BY PIECE, as the code writes them. Not to be believed: the message is that of Written, and `pieces-written` says that these are its bytes.
 --   bankBytes, remittanceBytes, transactionBytes   of a transaction
 --   sumsBytes n sum                                a number of transactions, and their sum
---   idBytes, totalsBytes, termsBytes, creditorBytes   of a batch before its first transaction, one behind the other
+--   idBytes, totalsBytes, termsBytes, creditorBytes   of a batch before its first transaction, one after the other
 --   headBytes cr n xs, batchBytes cr n xs          of batch n with the collections xs: before its first transaction; the whole
 --   idsBytes cr                                    of a message up to its creation time
 --   openingBytes cr n sum                          up to its first batch, for n collections of `sum` cents

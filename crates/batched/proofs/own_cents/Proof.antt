@@ -1,4 +1,4 @@
--- `batched::own_cents` meets its contract. The lead of the line tells its cents.
+-- `batched::own_cents` meets its contract. The lead of the line gives its cents.
 use Rattle.batched.proofs.Leads.{lead-within, lead-cents}
 use mathlib.Core.Path.{_≡_, _∙_}
 use Prim.Native.Nat.{ℕ, _+_}

@@ -1,4 +1,4 @@
--- `batched::put_transactions` meets its contract. The invariant: what is written, with what is left behind it, is all of them.
+-- `batched::put_transactions` meets its contract. The invariant: what is written, with what is left after it, is all of them.
 use Rattle.batched.proofs.Picks.{written-on, written-end}
 use Rattle.batched.proofs.Going.{Going, going-start, going-on, going-end}
 use Rattle.laws.specs.Lists.{gather}

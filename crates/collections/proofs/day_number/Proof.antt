@@ -1,4 +1,4 @@
--- `collections::day_number` meets its contract. The text behind the length byte at 8 is the collection date, and a date that is none tells 0.
+-- `collections::day_number` meets its contract. The text after the length byte at 8 is the collection date, and what is no date gives 0.
 use Rattle.collections.proofs.Lines.{date-none, date-there}
 use Rattle.collections.specs.Listed.{collectionOf}
 use Rattle.frames.proofs.Digits.{unhex-length}

@@ -1,4 +1,4 @@
--- `collections::terms_numbers` meets its contract. The invariant: with the numbers of the collections from i on put behind those that are written, they are all that is promised.
+-- `collections::terms_numbers` meets its contract. The invariant: with the numbers of the collections from i on put after those that are written, they are all that is promised.
 use Rattle.collections.proofs.Lines.{numbers-fit, row-there, set-less, set-within, start-there, number-read}
 use Rattle.collections.specs.Numbers.{numbersOf}
 use Rattle.laws.proofs.Puts.{put-nil, put-all, put-step}

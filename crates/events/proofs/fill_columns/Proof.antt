@@ -1,4 +1,4 @@
--- `fill_columns` meets its contract. The invariant: with the numbers of the parts from i on put behind what is filled, they are all there.
+-- `fill_columns` meets its contract. The invariant: with the numbers of the parts from i on put after what is filled, they are all there.
 use Prim.Native.Nat.{_+_, _-_, _*_, _≤_, _<_}
 use native.Mathlib.Omega.{arith}
 use mathlib.Core.Path.{_≡_, sym, _∙_}

@@ -25,7 +25,7 @@ bytes c = unhex (c .before .args .line .now)
 count : (c : tie.After-shared-slice-known Inv-loop μ-loop) → length (bytes c) ≡ length (c .before .args .line .now) / 2
 count c = unhex-length (c .before .args .line .now)
 
--- the texts begin behind the lead bytes
+-- the texts begin after the lead bytes
 begins : (c : tie.Else3 Inv-loop μ-loop) → (let f = c .before .before .before .before .before .args .frame in framed f (bytes (c .before .before .before .before)) ≡ holds (f .texts) (drop (1 + f .lead) (bytes (c .before .before .before .before))))
 begins c = framed-start (c .before .before .before .before .before .args .frame) (bytes (c .before .before .before .before)) (some _ _ (count (c .before .before .before .before)) (c .before .before .before .if1 .left)) (sym (c .before .before .byte-at .ensures) ∙ c .before .if2 .left) (rw (count (c .before .before .before .before)) (c .if3 .left))
 

@@ -18,7 +18,7 @@ Inv-loop s t at least i₀ i = (i ≤ length s) × (at + span (atLeast least) (d
 abbrev μ-loop : tie.MeasureT-loop
 μ-loop s t at least i₀ i = length s - i
 
--- what is to come behind one, two, three and four bytes of the rank
+-- what is to come after one, two, three and four bytes of the rank
 on1 : (c : tie.Else1 Inv-loop μ-loop) →
     (let l = c .before .before .before .before .loop in let a = c .before .before .before .before .before .before .before .args in
     a .at + span (atLeast (a .least)) (drop (a .at) (a .s .now)) ≡ l .i + 1 + span (atLeast (a .least)) (drop (l .i + 1) (a .s .now)))

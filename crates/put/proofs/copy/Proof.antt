@@ -1,4 +1,4 @@
--- `put::copy` meets its contract. The invariant: with the bytes from i on put behind what is copied, they are all there.
+-- `put::copy` meets its contract. The invariant: with the bytes from i on put after what is copied, they are all there.
 use Rattle.laws.proofs.Puts.{put-nil, put-all, put-step}
 use Rattle.laws.specs.Put.{putAt}
 use lib.ListN.{length, drop, length-set, drop-of-length-le}

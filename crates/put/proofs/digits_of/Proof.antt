@@ -1,4 +1,4 @@
--- `put::digits_of` meets its contract. The invariant: the digits of what is left of the number, and behind them those that are written.
+-- `put::digits_of` meets its contract. The invariant: the digits of what is left of the number, and after them those that are written.
 use Rattle.put.proofs.Writes.{decimal-last, decimal-more, store-front}
 use Rattle.put.specs.Numerals.{lastDigit, decimalOf, decimal}
 use Rattle.laws.specs.Bytes.{Bytes}

@@ -1,4 +1,4 @@
--- `run_rooms::print_lent` meets its contract: each part that is lent has the length told.
+-- `run_rooms::print_lent` meets its contract: each part that is lent has the length given.
 use native.Mathlib.Omega.{arith}
 use mathlib.Core.Path.{sym}
 use lib.Seq.{length-take-le}

@@ -1,4 +1,4 @@
--- `write::write_labelled` meets its contract. The first run writes nothing and tells the length. Where there is none,
+-- `write::write_labelled` meets its contract. The first run writes nothing and gives the length. Where there is none,
 -- the output has room for the longest message there is.
 use Rattle.write.proofs.Answers.{front-none, fitted-short, fitted-room}
 use Rattle.batched.specs.Ready.{messageBy}

@@ -1,4 +1,4 @@
--- `writer::print_front` meets its contract: the part that is lent has the length told.
+-- `writer::print_front` meets its contract: the part that is lent has the length given.
 use native.Mathlib.Omega.{arith}
 use mathlib.Core.Path.{sym}
 use lib.Seq.{length-take-le}

@@ -1,4 +1,4 @@
--- `daylist::stages::judge_frames` meets its contract. The invariant: the list is judged as its rest from `at` on is, behind the lines that are done.
+-- `daylist::stages::judge_frames` meets its contract. The invariant: the list is judged as its rest from `at` on is, after the lines that are done.
 use Rattle.daylist.proofs.Stops.{frames-lacks, frames-not, frames-go, frames-end}
 use Rattle.daylist.specs.Stages.{framesFrom}
 use Rattle.frames.proofs.Cuts.{line-inside}

@@ -1,4 +1,4 @@
--- `daylist::stages::judge_values` meets its contract. The invariant: the list is judged as its rest from `at` on is, behind the lines that are done.
+-- `daylist::stages::judge_values` meets its contract. The invariant: the list is judged as its rest from `at` on is, after the lines that are done.
 use Rattle.daylist.proofs.Stops.{values-bad, values-go, values-end}
 use Rattle.daylist.specs.Stages.{valuesFrom}
 use Rattle.frames.specs.Lines.{lines}

@@ -40,7 +40,7 @@ count-is c = ap (λ (f : Frame). f .texts) (c .frame-of .ensures) ∙ texts-numb
 there : (c : tie.In-loop Inv-loop μ-loop) → c .before .loop .i < length (fields (c .before .before))
 there c = omega (arith, count-is (c .before .before), c .loop-test .taken)
 
--- what is judged behind this text
+-- what is judged after this text
 abbrev rest : tie.After-judge-part Inv-loop μ-loop → Judged
 rest c = let l = c .before .before .before .before .before .before .loop in judgedFrom (fields (c .before .before .before .before .before .before .before)) (l .i + 1) (bytes (c .before .before .before .before .before .before .before)) (l .at + 1 + c .before .before .least .result)
 

@@ -1,4 +1,4 @@
--- `frames::lines::line_starts` meets its contract. The invariant: with the starts of the lines from `at` on put behind what is written, as far as the table goes, it is what is promised.
+-- `frames::lines::line_starts` meets its contract. The invariant: with the starts of the lines from `at` on put after what is written, as far as the table goes, it is what is promised.
 use Rattle.frames.proofs.Tables.{fill-go, fill-full, fill-none}
 use Rattle.frames.proofs.Cuts.{line-within, line-inside, line-passed, starts-go, starts-last, starts-end}
 use Rattle.frames.specs.Lines.{notEnd, lines, startsFrom, starts}

@@ -1,4 +1,4 @@
--- `pieces::texts::put_part` meets its contract: the part of the line that is told stands for the text.
+-- `pieces::texts::put_part` meets its contract: the part of the line that is given stands for the text.
 use Rattle.pieces.proofs.Shorts.{text-short, text-within, text-is}
 use Rattle.frames.specs.Frames.{frameOf}
 use Rattle.put.specs.Wrote.{Wrote}

@@ -1,4 +1,4 @@
--- `reader::walk::hear_text` meets its contract: a look tells that the text is good, or its rule judges it.
+-- `reader::walk::hear_text` meets its contract: a look says that the text is good, or its rule judges it.
 use native.Mathlib.Omega.{arith}
 use mathlib.Core.Path.{refl}
 use borrow.Author.Needs.{needs}

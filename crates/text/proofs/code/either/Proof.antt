@@ -1,4 +1,4 @@
--- `text::code::either` meets its contract. What the second word decides stands behind the first.
+-- `text::code::either` meets its contract. What the second word decides stands after the first.
 use borrow.Author.Needs.{needs}
 use Rattle.laws.specs.Bytes.{same}
 use Rattle.text.proofs.Codes.{word-on}

@@ -1,4 +1,4 @@
--- `text::code::sequence` meets its contract. What each word decides stands behind the one before it.
+-- `text::code::sequence` meets its contract. What each word decides stands after the one before it.
 use borrow.Author.Needs.{needs}
 use Rattle.laws.specs.Bytes.{ascii, same}
 use Rattle.text.proofs.Codes.{word-on}

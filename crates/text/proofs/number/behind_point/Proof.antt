@@ -1,4 +1,4 @@
--- `text::number::behind_point` meets its contract. Each test is one of `decimals`, and the digits behind the point are worth their cents.
+-- `text::number::behind_point` meets its contract. Each test is one of `decimals`, and the digits after the point are worth their cents.
 use Prim.Native.Nat.{_-_, _≤_}
 use native.Mathlib.Omega.{arith}
 use mathlib.Core.Bool.{true}
@@ -17,7 +17,7 @@ use Rattle.text.proofs.number.behind_point.Tie as tie
 abbrev text : tie.Else4 → Bytes
 text c = c .before .before .before .before .before .before .args .text .now
 
--- what is counted, and what is read, is all that stands behind the point
+-- what is counted, and what is read, is all that stands after the point
 counted : (c : tie.After-digits) → c .digits .result ≡ span digit (drop 1 (text (c .before .before)))
 counted c = c .digits .ensures ∙ ap (span digit) (drop-part 1 (text (c .before .before)))
 

@@ -1,4 +1,4 @@
--- `text::number::euro_text` meets its contract. The digits at the front are the whole euros, and `behind_point` judges what stands behind them.
+-- `text::number::euro_text` meets its contract. The digits at the front are the whole euros, and `behind_point` judges what stands after them.
 use Prim.Native.Nat.{ℕ, _+_, _*_, _^_, _<_, _≤_}
 use native.Mathlib.Omega.{arith}
 use mathlib.Core.Path.{_≡_, sym, _∙_, ap}
@@ -22,7 +22,7 @@ most c = c .before .before .args .longest
 within : (c : tie.After-digits) → c .digits .result ≤ length (text c)
 within c = whole-le (c .digits .result) (text c) (c .digits .ensures)
 
--- what is judged is all that stands behind them
+-- what is judged is all that stands after them
 behind : (c : tie.After-behind-point) → (let x = c .before .before .before .before in c .behind-point .result ≡ tail (drop (x .digits .result) (text x)))
 behind c = let x = c .before .before .before .before in c .behind-point .ensures ∙ ap tail (drop-part (x .digits .result) (text x))
 

@@ -1,4 +1,4 @@
--- `text::plain::identifier` meets its contract. What is no plain text has the flaw that was told, and of a plain text the slashes decide.
+-- `text::plain::identifier` meets its contract. What is no plain text has the flaw that was found, and of a plain text the slashes decide.
 use mathlib.Core.Bool.{not}
 use mathlib.Core.Path.{_≡_, sym, _∙_}
 use borrow.Author.Needs.{needs}

@@ -1,4 +1,4 @@
--- `text::shape::iban` meets its contract. The remainder of the rest, and then of the front behind it, is what the text leaves.
+-- `text::shape::iban` meets its contract. The remainder of the rest, and then of the front after it, is what the text leaves.
 use native.Mathlib.Nat.{mod-lt}
 use native.Mathlib.Omega.{arith}
 use mathlib.Core.Bool.{true}

@@ -1,4 +1,4 @@
--- `write::message::put_batches` meets its contract. The invariant: what is written, with the batches from k on behind it, is all of them.
+-- `write::message::put_batches` meets its contract. The invariant: what is written, with the batches from k on after it, is all of them.
 use Rattle.write.proofs.Rounds.{batches-go, batches-end, batches-all}
 use Rattle.batched.proofs.Going.{Going, going-start, going-on, going-end}
 use Rattle.batched.specs.Ready.{creditorAt, batchRoom, batchesFrom}
