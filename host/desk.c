@@ -1,130 +1,92 @@
-/* The desk as a command: `desk check` and `desk write` over the proved library. This file reads, prints and writes files; it judges nothing. */
+/* The desk as a command: `desk check`, `desk write`, `desk list` and `desk show` over the proved library. */
 #define _POSIX_C_SOURCE 200809L
 #include <errno.h>
-#include <fcntl.h>
 #include <inttypes.h>
-#include <stdio.h>
+#include <stdlib.h>
 #include <string.h>
-#include <sys/stat.h>
-#include <unistd.h>
 #include "host.h"
 
-static const char HELP[] =
+static const char HELP_TEXT[] =
     "desk checks SEPA direct-debit messages (pain.008.001.08), and writes one from a day list.\n"
     "\n"
-    "    desk check FILE [--explain]\n"
-    "    desk write LIST --ceiling N [-o FILE] [--explain]\n"
-    "    desk --help\n"
+    "    desk check FILE.. [--explain | --json | --quiet] [--declared]\n"
+    "    desk write LIST --ceiling N [-o FILE] [--explain | --json | --quiet]\n"
+    "    desk list CSV [-o LIST] [--FIELD VALUE ..] [--quiet]\n"
+    "    desk show LIST [-o CSV]\n"
+    "    desk -h | --help | --version\n"
     "\n"
-    "FILE or LIST is - for standard input; behind -- no argument is an option.\n"
+    "An input is - for standard input. Options stand before or after it; after -- no word is an option.\n"
     "\n"
     "check   prints, for a message that is accepted,\n"
     "            OK batches transactions cents\n"
-    "            B batch transactions cents declared-count declared-cents     for each batch, - where it declares none\n"
-    "        and for a message that is refused\n"
+    "            B batch transactions cents declared-count declared-cents\n"
+    "        the second line for each batch, with - where it declares none, and for one that is refused\n"
     "            NO number place\n"
-    "        Numbers 1 to 5: the message is too long, not of the profile's form, has too many batches or transactions, or a text\n"
-    "        breaks its rule. 6 to 9: a declared count or sum differs from the exact one. Places count bytes from 0.\n"
+    "        1 to 5: the message is too long, not of the profile's form, has too many batches or\n"
+    "        transactions, or a text breaks its rule. 6 to 9: a declared count or sum differs from the\n"
+    "        exact one. Places count bytes from 0. Of several files each line begins with the file's name.\n"
     "\n"
-    "write   writes the message of a day list, with at most N collections in a batch (1 to 500), to standard output, or with -o\n"
-    "        to FILE, which is new or a regular file. FILE is replaced as a whole, and only by a whole message. The lines of the\n"
-    "        check of that message, or NO number place, go to standard output, and without -o to standard error.\n"
-    "        Numbers 21 to 26: the list is too long, the ceiling out of range, a line no frame, the list incomplete or too long, or\n"
-    "        a value breaks its rule. 27: more than 64 batches are needed. Lines count from 1.\n"
+    "write   writes the message of a day list, with at most N collections in a batch (1 to 500), to\n"
+    "        standard output, or with -o to FILE, which is new or a regular file and is replaced as a\n"
+    "        whole. The lines of the check of that message, or NO number place, go to standard output,\n"
+    "        and without -o to standard error. 21 to 26: the list is too long, a line is no frame, the\n"
+    "        list is incomplete or has too many collections, or a value breaks its rule. 27: more than 64\n"
+    "        batches are needed. Lines count from 1.\n"
     "\n"
-    "--explain adds in words what the number means and what to mend: line and column (from 1, in bytes), the element and the text\n"
-    "        there, what may stand there; of totals the exact figures and the declared ones, and where nothing is declared.\n"
+    "list    makes a day list of a CSV whose first line has the names of the fields: message id, creation\n"
+    "        time, initiating name, creditor name, creditor IBAN, creditor BIC, creditor identifier,\n"
+    "        scheme, sequence, amount, collection date, end-to-end id, mandate id, signature date,\n"
+    "        debtor BIC, debtor name, debtor IBAN, remittance. The creditor's stand in the first record,\n"
+    "        or are given as options (--message-id VALUE, --creditor-iban VALUE ..). Prints OK collections\n"
+    "        cents, or what is wrong, with line and column. No letter is changed.\n"
     "\n"
-    "Exit status: 0 accepted or written, 1 refused, 2 bad usage, or a file cannot be read or written.\n"
-    "At most 1,048,577 bytes are read: one above the limit of a message and of a list.\n";
+    "show    prints a day list as such a CSV.\n"
+    "\n"
+    "--explain   says in words what is wrong, where, and what to mend; of totals the exact and the declared\n"
+    "            figures, and where nothing is declared\n"
+    "--json      prints an object of JSON for each file, with every number\n"
+    "--quiet     prints nothing but trouble\n"
+    "--declared  ends with 3 where a batch of an accepted message declares no count or no sum, and names\n"
+    "            the batches on standard error\n"
+    "\n"
+    "Exit status: 0 accepted, written or made; 1 refused; 2 bad usage, or a file cannot be read or written;\n"
+    "3 accepted, but --declared is not met. Of several files the worst: 2, then 1, then 3, then 0.\n"
+    "At most 1,048,577 bytes of an input are read: one above the limit.\n";
 
-enum { DONE = 0, REFUSED = 1, FAILED = 2 };
-
-/* What the arguments ask for. */
-struct request {
-    const char *input, *output;
-    uint64_t ceiling;
-    int has_ceiling, explain;
-};
-
-static uint8_t input[DESK_BYTES + 1], written[DESK_BYTES];
-static struct stat input_file;
+static uint8_t made[DESK_BYTES]; /* the message or the list that is made */
 static uint64_t slips[DESK_SLIPS], rows[DESK_ROWS];
 
-/* ─── one line to standard error ─── */
+/* ─── lines, collected before they are printed ─── */
 
-static int usage(const char *what, const char *which) {
-    fprintf(stderr, "desk: %s%s%s; desk --help tells how\n", what, which ? " " : "", which ? which : "");
-    return FAILED;
+struct lines {
+    FILE *to;
+    char *text;
+    size_t length;
+};
+
+static int open_lines(struct lines *lines) {
+    lines->to = open_memstream(&lines->text, &lines->length);
+    return lines->to ? DONE : trouble("collect", "lines", strerror(errno));
 }
 
-static int trouble(const char *doing, const char *name, const char *why) {
-    fprintf(stderr, "desk: cannot %s %s: %s\n", doing, name, why);
-    return FAILED;
-}
-
-/* ─── files ─── */
-
-/* At most one byte above the limit; `input_file` tells which file it was. */
-static int read_input(const char *name, size_t *length) {
-    int standard = strcmp(name, "-") == 0;
-    FILE *file = standard ? stdin : fopen(name, "rb");
-    if (!file) return trouble("read", name, strerror(errno));
-    *length = fread(input, 1, sizeof input, file);
-    int failed = ferror(file) || fstat(fileno(file), &input_file) != 0, why = errno;
-    if (!standard) fclose(file);
-    return failed ? trouble("read", standard ? "standard input" : name, strerror(why)) : DONE;
-}
-
-/* What was printed has arrived. */
-static int flushed(FILE *to) {
-    if (fflush(to) == 0 && !ferror(to)) return DONE;
-    return trouble("write", to == stdout ? "standard output" : "standard error", strerror(errno));
-}
-
-/* A new file beside `name`, whose own name is then in `beside`; below 0 where none can be made. */
-static int make_beside(const char *name, unsigned rights, char *beside, size_t room) {
-    int made = -1;
-    for (int i = 0; i < 100 && made < 0; i++) {
-        int n = snprintf(beside, room, "%s.%ld-%d", name, (long)getpid(), i);
-        if (n < 0 || (size_t)n >= room) errno = ENAMETOOLONG;
-        else made = open(beside, O_WRONLY | O_CREAT | O_EXCL, rights);
-        if (made < 0 && errno != EEXIST) break;
+/* Each line with a name before it, where one is given. */
+static void print_lines(FILE *to, const char *name, const char *text) {
+    for (size_t n; *text; text += n) {
+        n = strcspn(text, "\n");
+        n += text[n] != 0;
+        if (name) {
+            print_word(to, name);
+            fputs(": ", to);
+        }
+        fwrite(text, 1, n, to);
     }
-    return made;
 }
 
-static int put_bytes(int file, const uint8_t *bytes, size_t length) {
-    while (length > 0) {
-        ssize_t n = write(file, bytes, length);
-        if (n < 0) return 0;
-        bytes += n;
-        length -= (size_t)n;
-    }
-    return fsync(file) == 0;
+/* ─── answers as lines ─── */
+
+static void print_refusal(FILE *to, uint64_t number, uint64_t place) {
+    fprintf(to, "NO %" PRIu64 " %" PRIu64 "\n", number, place);
 }
-
-/* The file `name` gets these bytes, all of them or none: they are written beside it, and then take its name. No one may read it who might not read an older one. */
-static int replace_file(const char *name, const uint8_t *bytes, size_t length) {
-    char beside[4096];
-    struct stat about;
-    unsigned rights = 0666;
-    if (lstat(name, &about) == 0) {
-        if (!S_ISREG(about.st_mode)) return trouble("write", name, "it is there, and is no regular file");
-        if (about.st_dev == input_file.st_dev && about.st_ino == input_file.st_ino) return trouble("write", name, "it is the list itself");
-        rights = about.st_mode & 0777;
-    }
-    int made = make_beside(name, rights, beside, sizeof beside);
-    if (made < 0) return trouble("write", name, strerror(errno));
-    if (put_bytes(made, bytes, length) && close(made) == 0 && rename(beside, name) == 0) return DONE;
-    int why = errno;
-    unlink(beside);
-    return trouble("write", name, strerror(why));
-}
-
-/* ─── the two jobs ─── */
-
-static void print_refusal(FILE *to, uint64_t number, uint64_t place) { fprintf(to, "NO %" PRIu64 " %" PRIu64 "\n", number, place); }
 
 static void print_declared(FILE *to, uint64_t mark, uint64_t value) {
     if (mark)
@@ -135,7 +97,8 @@ static void print_declared(FILE *to, uint64_t mark, uint64_t value) {
 
 /* Document 01's lines for an accepted message. */
 static void print_accepted(FILE *to, const struct desk_checked *answer) {
-    fprintf(to, "OK %" PRIu64 " %" PRIu64 " %" PRIu64 "\n", answer->batches, answer->transactions, answer->cents);
+    fprintf(to, "OK %" PRIu64 " %" PRIu64 " %" PRIu64 "\n", answer->batches, answer->transactions,
+            answer->cents);
     for (uint64_t i = 0; i < answer->batches; i++) {
         const uint64_t *row = rows + i * DESK_ROW;
         fprintf(to, "B %" PRIu64 " %" PRIu64 " %" PRIu64, i + 1, row[1], row[2]);
@@ -145,102 +108,226 @@ static void print_accepted(FILE *to, const struct desk_checked *answer) {
     }
 }
 
-static int run_check(const struct request *request) {
-    size_t length;
-    if (read_input(request->input, &length) != DONE) return FAILED;
-    struct desk_checked answer = desk_check(input, length, slips, DESK_SLIPS, rows, DESK_ROWS);
-    if (answer.number == 0)
-        print_accepted(stdout, &answer);
+/* Of a check, or of a write whose message was checked then. */
+static void print_answer(FILE *to, uint64_t number, uint64_t place, const struct desk_checked *accepted) {
+    if (number == 0)
+        print_accepted(to, accepted);
     else
-        print_refusal(stdout, answer.number, answer.place);
-    if (request->explain) explain_check(stdout, input, length, &answer, rows);
-    if (flushed(stdout) != DONE) return FAILED;
-    return answer.number == 0 ? DONE : REFUSED;
+        print_refusal(to, number, place);
 }
 
-static int run_write(const struct request *request) {
-    size_t length;
-    FILE *to = request->output ? stdout : stderr;
-    if (read_input(request->input, &length) != DONE) return FAILED;
-    struct desk_written answer = desk_write(input, length, request->ceiling, written, sizeof written);
-    if (answer.number != 0) {
-        print_refusal(to, answer.number, answer.place);
-        if (request->explain) explain_refused_list(to, input, length, request->ceiling, &answer);
-        return flushed(to) == DONE ? REFUSED : FAILED;
-    }
-    length = (size_t)answer.place;
-    struct desk_checked checked = desk_check(written, length, slips, DESK_SLIPS, rows, DESK_ROWS);
-    if (checked.number != 0) return trouble("write", "the message", "the check refuses it; command and library do not belong together");
-    if (request->output) {
-        if (replace_file(request->output, written, length) != DONE) return FAILED;
-    } else {
-        fwrite(written, 1, length, stdout);
-        if (flushed(stdout) != DONE) return FAILED;
-    }
-    print_accepted(to, &checked);
-    if (request->explain) {
-        fprintf(to, "The message is written: %zu bytes.\n", length);
-        explain_check(to, written, length, &checked, rows);
-    }
-    return flushed(to);
-}
+/* ─── check ─── */
 
-/* ─── arguments ─── */
-
-/* A number of digits alone, below 2^64. */
-static int read_number(const char *text, uint64_t *number) {
-    uint64_t n = 0;
-    if (!*text) return 0;
-    for (; *text; text++) {
-        if (*text < '0' || *text > '9') return 0;
-        uint64_t d = (uint64_t)(*text - '0');
-        if (n > (UINT64_MAX - d) / 10) return 0;
-        n = n * 10 + d;
-    }
-    *number = n;
+static int declares_all(const struct desk_checked *answer) {
+    for (uint64_t i = 0; i < answer->batches; i++)
+        if (rows[i * DESK_ROW + 3] == 0 || rows[i * DESK_ROW + 5] == 0) return 0;
     return 1;
 }
 
-static int read_request(int argc, char **argv, int writes, struct request *request) {
-    int options = 1;
-    for (int i = 2; i < argc; i++) {
-        const char *word = argv[i];
-        if (!options || word[0] != '-' || strcmp(word, "-") == 0) {
-            if (request->input) return usage("one file at a time; there is also", word);
-            request->input = word;
-        } else if (strcmp(word, "--") == 0) {
-            options = 0;
-        } else if (strcmp(word, "--explain") == 0) {
-            request->explain = 1;
-        } else if (writes && strcmp(word, "--ceiling") == 0) {
-            if (request->has_ceiling) return usage("--ceiling stands twice", 0);
-            if (++i == argc) return usage("--ceiling needs a number behind it", 0);
-            if (!read_number(argv[i], &request->ceiling)) return usage("--ceiling takes a whole number below 2^64, not", argv[i]);
-            request->has_ceiling = 1;
-        } else if (writes && strcmp(word, "-o") == 0) {
-            if (request->output) return usage("-o stands twice", 0);
-            if (++i == argc) return usage("-o needs a file behind it", 0);
-            if (strcmp(argv[i], "-") == 0) return usage("without -o the message goes to standard output; -o takes a file, not", argv[i]);
-            request->output = argv[i];
-        } else {
-            return usage(writes ? "write has no option" : "check has no option", word);
-        }
+/* "; no sum in batch 1 2": the batches whose mark in this column is 0. */
+static void name_undeclared(const struct desk_checked *answer, const char *what, size_t column) {
+    int named = 0;
+    for (uint64_t i = 0; i < answer->batches; i++) {
+        if (rows[i * DESK_ROW + column] != 0) continue;
+        if (!named) fprintf(stderr, "; no %s in batch", what);
+        fprintf(stderr, " %" PRIu64, i + 1);
+        named = 1;
     }
-    if (!request->input) return usage(writes ? "write needs a day list" : "check needs a file", 0);
-    if (writes && !request->has_ceiling) return usage("write needs --ceiling N", 0);
+}
+
+static void say_undeclared(const char *name, const struct desk_checked *answer) {
+    fputs("desk: ", stderr);
+    print_word(stderr, name);
+    fputs(": accepted, but not everything is declared", stderr);
+    name_undeclared(answer, "count", 3);
+    name_undeclared(answer, "sum", 5);
+    fputc('\n', stderr);
+}
+
+static int report_checked(const struct request *request, const char *name, struct text message,
+                          const struct desk_checked *answer, enum status status) {
+    struct lines lines;
+    if (open_lines(&lines) != DONE) return FAILED;
+    if (!request->option[JSON]) print_answer(lines.to, answer->number, answer->place, answer);
+    if (request->option[EXPLAIN]) explain_check(lines.to, message, answer, rows);
+    fclose(lines.to);
+    if (request->option[JSON])
+        print_json_checked(stdout, name, status, message, answer, rows,
+                           request->option[EXPLAIN] ? lines.text : 0);
+    else
+        print_lines(stdout, request->inputs_count > 1 ? name : 0, lines.text);
+    free(lines.text);
+    return flushed(stdout);
+}
+
+static enum status check_file(const struct request *request, const char *name) {
+    struct text message;
+    if (read_input(name, &message) != DONE) {
+        if (request->option[JSON]) print_json_failed(stdout, name);
+        return FAILED;
+    }
+    struct desk_checked answer =
+        desk_check(message.bytes, message.length, slips, DESK_SLIPS, rows, DESK_ROWS);
+    enum status status = answer.number != 0                                    ? REFUSED
+                         : request->option[DECLARED] && !declares_all(&answer) ? UNDECLARED
+                                                                               : DONE;
+    if (!request->option[QUIET] && report_checked(request, name, message, &answer, status) != DONE)
+        return FAILED;
+    if (status == UNDECLARED) say_undeclared(name, &answer);
+    return status;
+}
+
+/* The worst status of all files. */
+static int run_check(const struct request *request) {
+    static const int badness[] = {[DONE] = 0, [UNDECLARED] = 1, [REFUSED] = 2, [FAILED] = 3};
+    enum status worst = DONE;
+    for (size_t i = 0; i < request->inputs_count; i++) {
+        enum status status = check_file(request, request->inputs[i]);
+        if (badness[status] > badness[worst]) worst = status;
+    }
+    return worst;
+}
+
+/* ─── what is made: to a file, or to standard output ─── */
+
+static int deliver(const struct request *request, struct text bytes) {
+    if (request->option[OUTPUT]) return replace_file(request->option[OUTPUT], bytes);
+    fwrite(bytes.bytes, 1, bytes.length, stdout);
+    return flushed(stdout);
+}
+
+/* Where lines go beside what is made. */
+static FILE *lines_of(const struct request *request) { return request->option[OUTPUT] ? stdout : stderr; }
+
+/* The lines after what was made has arrived: where they cannot be printed, that is said, and that it has
+   arrived. */
+static int finish(const struct request *request) {
+    if (fflush(lines_of(request)) == 0 && !ferror(lines_of(request))) return DONE;
+    if (!request->option[OUTPUT]) return DONE;
+    fprintf(stderr, "desk: ");
+    print_word(stderr, request->option[OUTPUT]);
+    fprintf(stderr, " is written, whole; its lines could not be printed: %s\n", strerror(errno));
+    return FAILED;
+}
+
+/* The lines of a refusal. */
+static int refused(const struct request *request) {
+    return flushed(lines_of(request)) == DONE ? REFUSED : FAILED;
+}
+
+/* ─── write ─── */
+
+/* `checked` is the check's answer of a message that was written. */
+static void explain_written(FILE *to, const struct request *request, struct text list,
+                            const struct desk_written *answer, const struct desk_checked *checked) {
+    if (answer->number != 0) {
+        explain_refused_list(to, list, request->ceiling, answer);
+        return;
+    }
+    fprintf(to, "The message is written: %" PRIu64 " bytes.\n", answer->place);
+    explain_check(to, (struct text){made, (size_t)answer->place}, checked, rows);
+}
+
+static int report_written(const struct request *request, struct text list, const struct desk_written *answer,
+                          const struct desk_checked *checked) {
+    struct lines lines;
+    if (request->option[QUIET]) return DONE;
+    if (open_lines(&lines) != DONE) return FAILED;
+    if (!request->option[JSON]) print_answer(lines.to, answer->number, answer->place, checked);
+    if (request->option[EXPLAIN]) explain_written(lines.to, request, list, answer, checked);
+    fclose(lines.to);
+    if (request->option[JSON])
+        print_json_written(lines_of(request), request->inputs[0], answer, checked, rows,
+                           request->option[EXPLAIN] ? lines.text : 0);
+    else
+        print_lines(lines_of(request), 0, lines.text);
+    free(lines.text);
     return DONE;
 }
 
+static int run_write(const struct request *request) {
+    struct text list;
+    struct desk_checked checked = {0, 0, 0, 0, 0};
+    if (read_input(request->inputs[0], &list) != DONE) return FAILED;
+    struct desk_written answer = desk_write(list.bytes, list.length, request->ceiling, made, sizeof made);
+    if (answer.number != 0)
+        return report_written(request, list, &answer, &checked) == DONE ? refused(request) : FAILED;
+    checked = desk_check(made, (size_t)answer.place, slips, DESK_SLIPS, rows, DESK_ROWS);
+    if (checked.number != 0)
+        return trouble("write", "the message",
+                       "the check refuses it; command and library do not belong together");
+    if (deliver(request, (struct text){made, (size_t)answer.place}) != DONE) return FAILED;
+    return report_written(request, list, &answer, &checked) == DONE ? finish(request) : FAILED;
+}
+
+/* ─── list and show ─── */
+
+/* "OK collections cents" of a list whose lines are frames. */
+static void print_list(FILE *to, struct text list) {
+    size_t collections = 0, rest;
+    uint64_t cents = 0;
+    struct text values[FIELDS];
+    for (next_line(&list); list.length > 0; collections++) {
+        struct line line = next_line(&list);
+        read_frame(bytes_of(&line), &COLLECTION_LINE, values, &rest);
+        cents += number_of(values[2]);
+    }
+    fprintf(to, "OK %zu %" PRIu64 "\n", collections, cents);
+}
+
+static int run_list(const struct request *request) {
+    struct text csv;
+    struct lines lines;
+    if (read_input(request->inputs[0], &csv) != DONE) return FAILED;
+    if (csv.length > DESK_BYTES)
+        return trouble("read", request->inputs[0], "it is longer than 1,048,576 bytes");
+    if (open_lines(&lines) != DONE) return FAILED;
+    size_t length = list_of_csv(lines.to, csv, request->option + CREDITOR_OPTION, made, sizeof made);
+    fclose(lines.to);
+    if (!request->option[QUIET]) print_lines(lines_of(request), 0, lines.text);
+    free(lines.text);
+    if (length == 0) return refused(request);
+    if (deliver(request, (struct text){made, length}) != DONE) return FAILED;
+    if (!request->option[QUIET]) print_list(lines_of(request), (struct text){made, length});
+    return finish(request);
+}
+
+/* Refusals 21 to 25 of a list are about its lines: then there are no values to show. */
+static int run_show(const struct request *request) {
+    struct text list;
+    struct lines lines;
+    uint8_t none[1];
+    if (read_input(request->inputs[0], &list) != DONE) return FAILED;
+    struct desk_written answer = desk_write(list.bytes, list.length, DESK_CEILING, none, 0);
+    if (answer.number >= 21 && answer.number <= 25) {
+        print_refusal(lines_of(request), answer.number, answer.place);
+        explain_refused_list(lines_of(request), list, DESK_CEILING, &answer);
+        return refused(request);
+    }
+    if (open_lines(&lines) != DONE) return FAILED;
+    print_csv(lines.to, list);
+    fclose(lines.to);
+    int status = deliver(request, (struct text){(const uint8_t *)lines.text, lines.length});
+    free(lines.text);
+    return status;
+}
+
 int main(int argc, char **argv) {
-    struct request request = {0, 0, 0, 0, 0};
-    for (int i = 1; i < argc && strcmp(argv[i], "--") != 0; i++)
-        if (strcmp(argv[i], "--help") == 0) {
-            fputs(HELP, stdout);
-            return flushed(stdout);
-        }
-    if (argc < 2) return usage("say check or write", 0);
-    int writes = strcmp(argv[1], "write") == 0;
-    if (!writes && strcmp(argv[1], "check") != 0) return usage("say check or write, not", argv[1]);
-    if (read_request(argc, argv, writes, &request) != DONE) return FAILED;
-    return writes ? run_write(&request) : run_check(&request);
+    const char *inputs[argc + 1];
+    struct request request = {.inputs = inputs};
+    if (read_request(argc, argv, &request) != DONE) return FAILED;
+    if (request.option[HELP] || request.option[SHORT_HELP]) {
+        fputs(HELP_TEXT, stdout);
+        return flushed(stdout);
+    }
+    if (request.option[VERSION]) {
+        fputs("desk " DESK_VERSION ", for pain.008.001.08\n", stdout);
+        return flushed(stdout);
+    }
+    switch (request.job) {
+    case CHECK: return run_check(&request);
+    case WRITE: return run_write(&request);
+    case LIST: return run_list(&request);
+    default: return run_show(&request);
+    }
 }

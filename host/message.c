@@ -1,4 +1,5 @@
-/* The check's answer in words: line and column of a place, the element and the text there, and what may stand there, which is asked of the library. */
+/* The check's answer in words: line and column of a place, the element and the text there, and what may stand
+   there, which is asked of the library. */
 #include <inttypes.h>
 #include <string.h>
 #include "host.h"
@@ -7,25 +8,23 @@
 
 enum { DEPTH = 16 };
 
-/* The elements that are open at a place, outermost first, and the start of the tag that the place lies in, or the place itself. */
+/* The elements that are open at a place, outermost first, and the start of the tag that the place lies in, or
+   the place itself. */
 struct spot {
     size_t depth, tag;
-    struct {
-        const uint8_t *name;
-        size_t length;
-    } open[DEPTH];
+    struct text open[DEPTH];
 };
 
-static void find(const uint8_t *message, size_t place, struct spot *spot) {
+static void find(struct text message, size_t place, struct spot *spot) {
     size_t at = 0;
     spot->depth = 0;
     spot->tag = place;
     while (at < place) {
-        const uint8_t *tag = memchr(message + at, '<', place - at);
-        const uint8_t *end = tag ? memchr(tag, '>', (size_t)(message + place - tag)) : 0;
+        const uint8_t *tag = memchr(message.bytes + at, '<', place - at);
+        const uint8_t *end = tag ? memchr(tag, '>', (size_t)(message.bytes + place - tag)) : 0;
         if (!tag) return;
         if (!end) {
-            spot->tag = (size_t)(tag - message);
+            spot->tag = (size_t)(tag - message.bytes);
             return;
         }
         if (tag[1] == '/') {
@@ -33,19 +32,17 @@ static void find(const uint8_t *message, size_t place, struct spot *spot) {
         } else if (tag[1] != '?' && spot->depth < DEPTH) {
             size_t n = 1;
             while (tag[n] != ' ' && tag[n] != '>') n++;
-            spot->open[spot->depth].name = tag + 1;
-            spot->open[spot->depth].length = n - 1;
-            spot->depth++;
+            spot->open[spot->depth++] = (struct text){tag + 1, n - 1};
         }
-        at = (size_t)(end - message) + 1;
+        at = (size_t)(end - message.bytes) + 1;
     }
 }
 
 /* The n-th element from the inside has this name. */
 static int named(const struct spot *spot, size_t n, const char *name) {
     if (n >= spot->depth) return 0;
-    size_t i = spot->depth - 1 - n, length = strlen(name);
-    return spot->open[i].length == length && memcmp(spot->open[i].name, name, length) == 0;
+    struct text open = spot->open[spot->depth - 1 - n];
+    return open.length == strlen(name) && memcmp(open.bytes, name, open.length) == 0;
 }
 
 static int within(const struct spot *spot, const char *name) {
@@ -57,61 +54,65 @@ static int within(const struct spot *spot, const char *name) {
 static enum rule rule_at(const struct spot *spot) {
     for (size_t i = 0; i < ELEMENTS_COUNT; i++) {
         const struct element *e = &ELEMENTS[i];
-        if (named(spot, 0, e->name) && (!e->within || named(spot, 1, e->within) || named(spot, 2, e->within))) return e->rule;
+        if (named(spot, 0, e->name) && (!e->within || named(spot, 1, e->within) || named(spot, 2, e->within)))
+            return e->rule;
     }
     return HOLDER;
 }
 
-static void print_place(FILE *to, const uint8_t *message, size_t length, size_t place) {
-    size_t line = 1, start = 0;
+void line_and_column(struct text message, size_t place, size_t *line, size_t *column) {
+    size_t start = 0;
+    *line = 1;
     for (size_t i = 0; i < place; i++)
-        if (message[i] == '\n') {
-            line++;
+        if (message.bytes[i] == '\n') {
+            ++*line;
             start = i + 1;
         }
-    fprintf(to, "Place: byte %zu, line %zu, column %zu", place, line, place - start + 1);
-    if (place == length) fputs(", the end of the message", to);
-    fputs(".\n", to);
+    *column = place - start + 1;
 }
 
-static void print_element(FILE *to, const uint8_t *message, const struct spot *spot, size_t place) {
+static void print_place(FILE *to, struct text message, size_t place) {
+    size_t line, column;
+    line_and_column(message, place, &line, &column);
+    fprintf(to, "Place: byte %zu, line %zu, column %zu%s.\n", place, line, column,
+            place == message.length ? ", the end of the file" : "");
+}
+
+static void print_element(FILE *to, struct text message, const struct spot *spot, size_t place) {
+    struct text before = {message.bytes, place};
     fputs("Element: ", to);
     if (spot->depth == 0) fputs("none is open", to);
     for (size_t i = 0; i < spot->depth; i++) {
         if (i > 0) fputc('/', to);
-        fwrite(spot->open[i].name, 1, spot->open[i].length, to);
+        fwrite(spot->open[i].bytes, 1, spot->open[i].length, to);
     }
-    if (within(spot, "PmtInf")) fprintf(to, ", batch %zu", count_tags(message, place, "<PmtInf>"));
-    if (within(spot, "DrctDbtTxInf")) fprintf(to, ", transaction %zu of the message", count_tags(message, place, "<DrctDbtTxInf>"));
+    if (within(spot, "PmtInf")) fprintf(to, ", batch %zu", count_tags(before, "<PmtInf>"));
+    if (within(spot, "DrctDbtTxInf"))
+        fprintf(to, ", transaction %zu of the message", count_tags(before, "<DrctDbtTxInf>"));
     fputs(".\n", to);
 }
 
 /* ─── what may stand there ─── */
 
-/* Whether some message of the form begins with the first `keep` bytes of this one and then the tag: the library is asked. */
-static int may_stand(const uint8_t *message, size_t keep, const char *tag) {
+/* Whether some message of the form begins with the first `keep` bytes of this one and then the tag: the
+   library is asked. */
+static int may_stand(struct text message, size_t keep, const char *tag) {
     static uint8_t asked[DESK_BYTES];
     uint64_t none[1];
     size_t length = keep + strlen(tag);
     if (length > DESK_BYTES) return 0;
-    memcpy(asked, message, keep);
+    memcpy(asked, message.bytes, keep);
     memcpy(asked + keep, tag, length - keep);
     struct desk_checked answer = desk_check(asked, length, none, 0, none, 0);
     return answer.number != 2 || answer.place == length;
 }
 
-static void print_found(FILE *to, const uint8_t *message, size_t length, const struct spot *spot) {
-    if (spot->tag == length) return;
-    fputs("There stands: ", to);
-    print_text(to, message + spot->tag, length - spot->tag < SHOWN ? length - spot->tag : SHOWN);
-    fputs(".\n", to);
-}
-
-/* Tells the tag where it may stand, behind as many as were told before; answers how many are told then. */
-static size_t print_if_allowed(FILE *to, const uint8_t *message, const struct spot *spot, const char *tag, size_t told) {
-    if (!may_stand(message, spot->tag, tag)) return told;
-    fprintf(to, "%s%s", told == 0 ? "There may stand: " : " or ", tag);
-    return told + 1;
+/* Prints the tag where it may stand, after as many as were printed before; answers how many are printed then. */
+static size_t print_if_allowed(FILE *to, struct text message, const struct spot *spot, const char *tag,
+                               size_t printed) {
+    if (!may_stand(message, spot->tag, tag)) return printed;
+    fprintf(to, "%s%s", printed == 0 ? "There may stand: " : " or ", tag);
+    return printed + 1;
 }
 
 static const char *attribute_of(const char *name) {
@@ -119,26 +120,90 @@ static const char *attribute_of(const char *name) {
     return strcmp(name, "InstdAmt") == 0 ? " Ccy=\"EUR\"" : "";
 }
 
-static void print_allowed(FILE *to, const uint8_t *message, const struct spot *spot) {
+/* In message order: the declaration, the elements, the closing tag. */
+static void print_allowed(FILE *to, struct text message, const struct spot *spot) {
     char tag[80];
     if (spot->tag + sizeof tag > DESK_BYTES) return;
-    size_t told = print_if_allowed(to, message, spot, "<?xml version=\"1.0\" encoding=\"UTF-8\"?>", 0);
+    size_t printed = print_if_allowed(to, message, spot, "<?xml version=\"1.0\" encoding=\"UTF-8\"?>", 0);
     for (size_t i = 0; i < ELEMENTS_COUNT; i++) {
         const char *name = ELEMENTS[i].name;
         if (i > 0 && strcmp(name, ELEMENTS[i - 1].name) == 0) continue;
         snprintf(tag, sizeof tag, "<%s%s>", name, attribute_of(name));
-        told = print_if_allowed(to, message, spot, tag, told);
+        printed = print_if_allowed(to, message, spot, tag, printed);
     }
     if (spot->depth > 0) {
-        snprintf(tag, sizeof tag, "</%.*s>", (int)spot->open[spot->depth - 1].length, (const char *)spot->open[spot->depth - 1].name);
-        told = print_if_allowed(to, message, spot, tag, told);
+        struct text open = spot->open[spot->depth - 1];
+        snprintf(tag, sizeof tag, "</%.*s>", (int)open.length, (const char *)open.bytes);
+        printed = print_if_allowed(to, message, spot, tag, printed);
     }
-    fputs(told > 0 ? ".\n" : "There may stand: nothing but white space.\n", to);
+    fputs(printed > 0 ? ".\n" : "There may stand: nothing but white space.\n", to);
+}
+
+/* ─── the refusals ─── */
+
+/* The last bytes, but for white space. */
+static void print_end(FILE *to, struct text message) {
+    while (message.length > 0 && message.bytes[message.length - 1] <= ' ') message.length--;
+    print_marked(to, "It ends: ", message, message.length);
+}
+
+static void explain_cut_off(FILE *to, struct text message) {
+    struct spot spot;
+    find(message, message.length, &spot);
+    if (message.length == 0) {
+        fputs("The file is empty.\nTo mend: Fetch it again.\n", to);
+        return;
+    }
+    fputs("The file is cut off: it ends before the message does.\n", to);
+    print_place(to, message, message.length);
+    print_element(to, message, &spot, message.length);
+    print_end(to, message);
+    explain_so_far(to, message);
+    fputs("To mend: Fetch the file again, whole. Never close the tags by hand: what is missing would not be "
+          "collected.\n",
+          to);
+}
+
+static void explain_form(FILE *to, struct text message, const struct spot *spot, size_t place) {
+    print_marked(to, "There stands: ", message, place);
+    explain_namespace(to, message, place);
+    print_allowed(to, message, spot);
+}
+
+static void explain_text(FILE *to, struct text message, const struct spot *spot, size_t place) {
+    const uint8_t *end = memchr(message.bytes + place, '<', message.length - place);
+    struct text text = {message.bytes + place,
+                        end ? (size_t)(end - message.bytes) - place : message.length - place};
+    size_t at = explain_flaw(to, rule_at(spot), text);
+    fputc('\n', to);
+    print_marked(to, "Text: ", text, at);
+    fprintf(to, "Its rule: %s.\n", RULE[rule_at(spot)]);
+}
+
+static void explain_refused(FILE *to, struct text message, uint64_t number, size_t place) {
+    const struct words *words = words_of(number);
+    const struct hint *hint = number == 2 ? hint_of_message(message, place) : 0;
+    struct spot spot;
+    fprintf(to, "%s\n", words->means);
+    if (hint) fprintf(to, "%s\n", hint->is);
+    if (number >= 2 && number <= 9) {
+        find(message, place, &spot);
+        print_place(to, message, place);
+        print_element(to, message, &spot, place);
+    }
+    if (number == 2) explain_form(to, message, &spot, place);
+    if (number == 3) fprintf(to, "The message has %zu batches.\n", count_tags(message, "<PmtInf>"));
+    if (number == 4)
+        fprintf(to, "The message has %zu transactions.\n", count_tags(message, "<DrctDbtTxInf>"));
+    if (number == 5) explain_text(to, message, &spot, place);
+    if (number >= 6 && number <= 9) explain_totals(to, message, number, place);
+    fprintf(to, "To mend: %s\n", hint ? hint->mend : words->mend);
 }
 
 /* ─── the answers ─── */
 
-static void explain_accepted(FILE *to, const uint8_t *message, size_t length, const struct desk_checked *answer, const uint64_t *rows) {
+static void explain_accepted(FILE *to, struct text message, const struct desk_checked *answer,
+                             const uint64_t *rows) {
     fputs("The message is accepted: ", to);
     print_many(to, answer->batches, "batch", "batches");
     fputs(", ", to);
@@ -146,40 +211,14 @@ static void explain_accepted(FILE *to, const uint8_t *message, size_t length, co
     fputs(", ", to);
     print_euros(to, answer->cents);
     fputs(".\n", to);
-    explain_declared(to, message, length, rows);
+    explain_declared(to, message, rows);
 }
 
-static void explain_refused(FILE *to, const uint8_t *message, size_t length, const struct desk_checked *answer) {
-    const struct words *words = words_of(answer->number);
-    size_t place = (size_t)answer->place;
-    fprintf(to, "%s\n", words->means);
-    if (answer->number >= 2 && answer->number <= 9) {
-        struct spot spot;
-        find(message, place, &spot);
-        print_place(to, message, length, place);
-        print_element(to, message, &spot, place);
-        if (answer->number == 2) {
-            print_found(to, message, length, &spot);
-            print_allowed(to, message, &spot);
-        } else if (answer->number == 3) {
-            fprintf(to, "The message has %zu batches.\n", count_tags(message, length, "<PmtInf>"));
-        } else if (answer->number == 4) {
-            fprintf(to, "The message has %zu transactions.\n", count_tags(message, length, "<DrctDbtTxInf>"));
-        } else {
-            const uint8_t *end = memchr(message + place, '<', length - place);
-            fputs("Text: ", to);
-            print_text(to, message + place, end ? (size_t)(end - message) - place : length - place);
-            fputs(".\n", to);
-        }
-        if (answer->number == 5) fprintf(to, "Its rule: %s.\n", RULE[rule_at(&spot)]);
-        if (answer->number >= 6) explain_totals(to, message, length, answer->number, place);
-    }
-    fprintf(to, "To mend: %s\n", words->mend);
-}
-
-void explain_check(FILE *to, const uint8_t *message, size_t length, const struct desk_checked *answer, const uint64_t *rows) {
+void explain_check(FILE *to, struct text message, const struct desk_checked *answer, const uint64_t *rows) {
     if (answer->number == 0)
-        explain_accepted(to, message, length, answer, rows);
+        explain_accepted(to, message, answer, rows);
+    else if (answer->number == 2 && answer->place == message.length)
+        explain_cut_off(to, message);
     else
-        explain_refused(to, message, length, answer);
+        explain_refused(to, message, answer->number, (size_t)answer->place);
 }

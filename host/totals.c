@@ -1,88 +1,94 @@
-/* The totals in words. The exact figures of a refused message are worked out here, in integers; those of an accepted one are the library's. */
+/* The totals in words. The exact figures of a refused message are worked out here, in integers; those of an
+   accepted one are the library's. */
 #include <inttypes.h>
 #include <string.h>
 #include "host.h"
 
 /* ─── tags: a text has no `<`, so in a message of the form each tag is found by its bytes ─── */
 
-static int begins(const uint8_t *message, size_t length, size_t at, const char *with) {
+static int begins(struct text message, size_t at, const char *with) {
     size_t n = strlen(with);
-    return length - at >= n && memcmp(message + at, with, n) == 0;
+    return message.length - at >= n && memcmp(message.bytes + at, with, n) == 0;
 }
 
-size_t count_tags(const uint8_t *message, size_t length, const char *tag) {
+size_t count_tags(struct text message, const char *tag) {
     size_t n = 0;
-    for (size_t at = 0; at < length; at++)
-        if (message[at] == '<' && begins(message, length, at, tag)) n++;
+    for (size_t at = 0; at < message.length; at++)
+        if (message.bytes[at] == '<' && begins(message, at, tag)) n++;
     return n;
 }
 
 /* ─── adding up ─── */
 
-/* Exact and declared figures of a batch, or of the whole message. A declaration that is absent has its mark 0. */
-struct figures {
-    const uint8_t *id;
-    size_t id_length;
-    uint64_t count, cents;
-    int declares_count, declares_sum;
-    uint64_t declared_count, declared_cents;
-};
-
-struct totals {
-    struct figures all, batch[DESK_BATCHES];
-    size_t batches;
-};
-
-/* The number that a good count, sum or amount spells: a count as it is, money in cents. */
-static uint64_t spelled(const uint8_t *text, size_t length, int money) {
-    uint64_t n = 0;
-    size_t decimals = 0, behind_point = 0;
-    for (size_t i = 0; i < length; i++) {
-        if (text[i] == '.') {
-            behind_point = 1;
-        } else {
-            n = n * 10 + (uint64_t)(text[i] - '0');
-            decimals += behind_point;
+/* The number that digits spell, of a sum or an amount in cents; whether they are one, with at most `most`
+   digits before the point. */
+static int spelled(struct text text, size_t most, int money, uint64_t *number) {
+    size_t whole = 0, decimals = 0;
+    int after_point = 0;
+    *number = 0;
+    for (size_t i = 0; i < text.length; i++) {
+        if (money && text.bytes[i] == '.' && !after_point) {
+            after_point = 1;
+            continue;
         }
+        if (text.bytes[i] < '0' || text.bytes[i] > '9') return 0;
+        if (after_point ? ++decimals > 2 : ++whole > most) return 0;
+        *number = *number * 10 + (uint64_t)(text.bytes[i] - '0');
     }
-    if (money)
-        for (; decimals < 2; decimals++) n *= 10;
-    return n;
+    for (; money && decimals < 2; decimals++) *number *= 10;
+    return whole > 0;
 }
 
-/* The totals of a message whose form, limits and texts are good. */
-static void add_up(const uint8_t *message, size_t length, struct totals *totals) {
-    static const char *const tags[] = {"<PmtInf>", "<PmtInfId>", "<NbOfTxs>", "<CtrlSum>", "<InstdAmt Ccy=\"EUR\">"};
+void add_up(struct text message, struct totals *totals) {
+    static const char *const tags[] = {"<PmtInf>", "<PmtInfId>", "<NbOfTxs>", "<CtrlSum>",
+                                       "<InstdAmt Ccy=\"EUR\">"};
     struct figures *of = &totals->all;
     memset(totals, 0, sizeof *totals);
-    for (size_t at = 0; at < length; at++) {
+    for (size_t at = 0; at < message.length; at++) {
         size_t tag = 0;
-        if (message[at] != '<') continue;
-        while (tag < 5 && !begins(message, length, at, tags[tag])) tag++;
+        if (message.bytes[at] != '<') continue;
+        while (tag < 5 && !begins(message, at, tags[tag])) tag++;
         if (tag == 5) continue;
-        const uint8_t *text = message + at + strlen(tags[tag]);
-        const uint8_t *end = memchr(text, '<', (size_t)(message + length - text));
-        size_t n = end ? (size_t)(end - text) : 0;
+        struct text text = {message.bytes + at + strlen(tags[tag]), 0};
+        const uint8_t *end = memchr(text.bytes, '<', (size_t)(message.bytes + message.length - text.bytes));
+        if (end) text.length = (size_t)(end - text.bytes);
         if (tag == 0) {
-            if (totals->batches == DESK_BATCHES) return;
-            of = &totals->batch[totals->batches++];
+            of = &totals->batch[totals->batches < DESK_BATCHES ? totals->batches : DESK_BATCHES];
+            totals->batches++;
         } else if (tag == 1) {
             of->id = text;
-            of->id_length = n;
         } else if (tag == 2) {
-            of->declares_count = 1;
-            of->declared_count = spelled(text, n, 0);
+            of->declares_count = spelled(text, 15, 0, &of->declared_count);
         } else if (tag == 3) {
-            of->declares_sum = 1;
-            of->declared_cents = spelled(text, n, 1);
+            of->declares_sum = spelled(text, 15, 1, &of->declared_cents);
         } else {
-            uint64_t cents = spelled(text, n, 1);
+            uint64_t cents;
+            if (!spelled(text, 9, 1, &cents)) totals->unreadable = 1;
             of->count++;
             of->cents += cents;
             totals->all.count++;
             totals->all.cents += cents;
         }
     }
+}
+
+int add_up_so_far(struct text message, struct totals *totals) {
+    static const char begin[] = "<DrctDbtTxInf>", end[] = "</DrctDbtTxInf>";
+    size_t first = message.length, whole = 0, begun = count_tags(message, begin), ended = 0;
+    for (size_t at = 0; at < message.length; at++) {
+        if (first == message.length && begins(message, at, begin)) first = at;
+        if (!begins(message, at, end)) continue;
+        whole = at + strlen(end);
+        ended++;
+    }
+    add_up((struct text){message.bytes, ended > 0 ? whole : first}, totals);
+    return begun > ended;
+}
+
+const struct figures *figures_at(struct text message, const struct totals *totals, size_t place) {
+    size_t batch = count_tags((struct text){message.bytes, place}, "<PmtInf>");
+    if (batch == 0) return &totals->all;
+    return &totals->batch[batch <= DESK_BATCHES ? batch - 1 : DESK_BATCHES];
 }
 
 /* ─── printing ─── */
@@ -95,41 +101,55 @@ static void print_figure(FILE *to, uint64_t n, int money) {
         fprintf(to, "%" PRIu64, n);
 }
 
-/* What is missing or too many by the declared figure; nothing where it is right. */
-static void print_off(FILE *to, uint64_t declared, uint64_t exact, int money) {
-    uint64_t off = declared > exact ? declared - exact : exact - declared;
-    if (off == 0) return;
-    fputs(", by which ", to);
-    print_figure(to, off, money);
-    fputs(money || off == 1 ? " is " : " are ", to);
-    fputs(declared > exact ? "missing" : money ? "too much" : "too many", to);
+/* "2 transactions", or euros. */
+static void print_amount(FILE *to, uint64_t n, int money) {
+    if (money)
+        print_euros(to, n);
+    else if (n == 1)
+        fputs("one transaction", to);
+    else
+        print_many(to, n, "", "transactions");
 }
 
-static void print_declared(FILE *to, int declares, uint64_t declared, uint64_t exact, int money) {
-    print_figure(to, exact, money);
+/* "declared 4, found 5: one transaction more than declared". */
+static void print_difference(FILE *to, uint64_t declared, uint64_t found, int money) {
+    fputs("declared ", to);
+    print_figure(to, declared, money);
+    fputs(", found ", to);
+    print_figure(to, found, money);
+    if (declared == found) return;
+    fputs(": ", to);
+    print_amount(to, declared > found ? declared - found : found - declared, money);
+    fputs(found > declared ? " more" : money ? " less" : " fewer", to);
+    fputs(" than declared", to);
+}
+
+static void print_compared(FILE *to, int declares, uint64_t declared, uint64_t found, int money) {
+    fputs(money ? "  sum: " : "  transactions: ", to);
     if (declares) {
-        fputs(", declared ", to);
-        print_figure(to, declared, money);
-        print_off(to, declared, exact, money);
+        print_difference(to, declared, found, money);
     } else {
-        fprintf(to, ", no %s is declared, so nothing was compared", money ? "sum" : "count");
+        fputs("found ", to);
+        print_figure(to, found, money);
+        fprintf(to, "; no %s is declared, so nothing was compared", money ? "sum" : "count");
     }
     fputc('\n', to);
 }
 
 static void print_figures(FILE *to, const struct figures *of) {
-    fputs("  transactions: ", to);
-    print_declared(to, of->declares_count, of->declared_count, of->count, 0);
-    fputs("  sum: ", to);
-    print_declared(to, of->declares_sum, of->declared_cents, of->cents, 1);
+    print_compared(to, of->declares_count, of->declared_count, of->count, 0);
+    print_compared(to, of->declares_sum, of->declared_cents, of->cents, 1);
 }
 
 static void print_totals(FILE *to, const struct totals *totals, const uint64_t *rows) {
-    static const char *const schemes[] = {"CORE", "B2B"}, *const sequences[] = {"FRST", "RCUR", "OOFF", "FNAL"};
+    static const char *const schemes[] = {"CORE", "B2B"}, *const sequences[] = {"FRST", "RCUR", "OOFF",
+                                                                                "FNAL"};
     for (size_t i = 0; i < totals->batches; i++) {
         fprintf(to, "Batch %zu, PmtInfId ", i + 1);
-        print_text(to, totals->batch[i].id, totals->batch[i].id_length);
-        if (rows) fprintf(to, ", %s %s", schemes[rows[i * DESK_ROW + 7] / 4 % 2], sequences[rows[i * DESK_ROW + 7] % 4]);
+        print_text(to, totals->batch[i].id);
+        if (rows)
+            fprintf(to, ", %s %s", schemes[rows[i * DESK_ROW + 7] / 4 % 2],
+                    sequences[rows[i * DESK_ROW + 7] % 4]);
         fputc('\n', to);
         print_figures(to, &totals->batch[i]);
     }
@@ -137,26 +157,25 @@ static void print_totals(FILE *to, const struct totals *totals, const uint64_t *
     print_figures(to, &totals->all);
 }
 
-void explain_totals(FILE *to, const uint8_t *message, size_t length, uint64_t number, size_t place) {
+/* ─── the explanations ─── */
+
+void explain_totals(FILE *to, struct text message, uint64_t number, size_t place) {
     struct totals totals;
-    add_up(message, length, &totals);
-    size_t batch = count_tags(message, place, "<PmtInf>");
-    const struct figures *of = batch == 0 ? &totals.all : &totals.batch[batch - 1];
-    int money = number == 7 || number == 9;
-    uint64_t declared = money ? of->declared_cents : of->declared_count, exact = money ? of->cents : of->count;
-    fputs("Declared: ", to);
-    print_figure(to, declared, money);
-    print_off(to, declared, exact, money);
-    fputs(". Exact: ", to);
-    print_figure(to, exact, money);
+    add_up(message, &totals);
+    const struct figures *of = figures_at(message, &totals, place);
+    fputs(number == 6 || number == 7 ? "The batch: " : "The message: ", to);
+    if (number == 7 || number == 9)
+        print_difference(to, of->declared_cents, of->cents, 1);
+    else
+        print_difference(to, of->declared_count, of->count, 0);
     fputs(".\n", to);
     print_totals(to, &totals, 0);
 }
 
-void explain_declared(FILE *to, const uint8_t *message, size_t length, const uint64_t *rows) {
+void explain_declared(FILE *to, struct text message, const uint64_t *rows) {
     struct totals totals;
     int absent = 0;
-    add_up(message, length, &totals);
+    add_up(message, &totals);
     for (size_t i = 0; i < totals.batches; i++) {
         const uint64_t *row = rows + i * DESK_ROW;
         struct figures *of = &totals.batch[i];
@@ -170,7 +189,48 @@ void explain_declared(FILE *to, const uint8_t *message, size_t length, const uin
     }
     print_totals(to, &totals, rows);
     if (absent)
-        fputs("Where a batch declares none, only the header's total was compared. A header that was made after transactions were lost does not\n"
-              "show the loss: hold the figures of such a batch against your own list.\n",
+        fputs("Where a batch declares none, only the header's total was compared. A header that was made "
+              "after\n"
+              "transactions were lost does not show the loss: compare such a batch with your own list.\n",
               to);
+}
+
+/* What the header declares and is not there. */
+static void print_missing(FILE *to, const struct totals *totals) {
+    const struct figures *all = &totals->all;
+    if (!all->declares_count && !all->declares_sum) {
+        fputs("The file ends before the header declares a count or a sum.\n", to);
+        return;
+    }
+    fputs("The header declares ", to);
+    if (all->declares_count) print_many(to, all->declared_count, "transaction", "transactions");
+    if (all->declares_count && all->declares_sum) fputs(" and ", to);
+    if (all->declares_sum) print_euros(to, all->declared_cents);
+    fputs(".\n", to);
+    if (!all->declares_count) return;
+    if (all->declared_count <= all->count) {
+        fputs("So many transactions stand there; the file is not whole all the same.\n", to);
+        return;
+    }
+    fputs("Missing: ", to);
+    print_amount(to, all->declared_count - all->count, 0);
+    if (all->declares_sum && !totals->unreadable && all->declared_cents > all->cents) {
+        fputs(", ", to);
+        print_euros(to, all->declared_cents - all->cents);
+    }
+    fputs(".\n", to);
+}
+
+void explain_so_far(FILE *to, struct text message) {
+    struct totals totals;
+    int begun = add_up_so_far(message, &totals);
+    fputs("So far: ", to);
+    print_many(to, totals.all.count, "whole transaction", "whole transactions");
+    fputs(", ", to);
+    if (totals.unreadable)
+        fputs("whose sum is not known: an amount is no number", to);
+    else
+        print_euros(to, totals.all.cents);
+    fputs(begun ? "; one more is begun and not whole.\n" : ".\n", to);
+    print_missing(to, &totals);
 }

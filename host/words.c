@@ -2,34 +2,43 @@
 #include <string.h>
 #include "host.h"
 
+#define FIND_LOST(what, declared)                                                                            \
+    "Find the " what ". Correct the " declared " only where it was declared wrong."
+
 static const struct words WORDS[] = {
     {1, "The message is longer than 1,048,576 bytes.", "Split the run into several messages."},
-    {2, "The message is not of the profile's form.", "Correct what stands at the place, or add what is missing there."},
+    {2, "The message is not of the profile's form.",
+     "Correct what stands at the place, or add what is missing there. docs/FORMATS.md has the whole tree."},
     {3, "The message has more than 64 batches.", "Split the run into several messages."},
     {4, "The message has more than 2,000 transactions.", "Split the run into several messages."},
-    {5, "A text breaks its rule.", "Correct that text."},
+    {5, "A text breaks its rule.", "Correct that text. docs/FORMATS.md has every rule with examples."},
     {6, "The count that a batch declares differs from the number of its transactions.",
-     "Find the transactions that were lost or are too many; correct the count only where it was declared wrong."},
+     FIND_LOST("transactions that were lost or are too many", "count")},
     {7, "The sum that a batch declares differs from the exact sum of its amounts.",
-     "Find the amounts that were lost, changed or are too many; correct the sum only where it was declared wrong."},
+     FIND_LOST("amounts that were lost, changed or are too many", "sum")},
     {8, "The count that the header declares differs from the number of all transactions.",
-     "Find the transactions that were lost or are too many; correct the count only where it was declared wrong."},
+     FIND_LOST("transactions that were lost or are too many", "count")},
     {9, "The sum that the header declares differs from the exact sum of all amounts.",
-     "Find the amounts that were lost, changed or are too many; correct the sum only where it was declared wrong."},
+     FIND_LOST("amounts that were lost, changed or are too many", "sum")},
     {10, "The slip table is too short.", "Lend a table of as many numbers as the place says."},
     {11, "The batch table is too short.", "Lend a table of as many numbers as the place says."},
     {21, "The list is longer than 1,048,576 bytes.", "Split the list."},
     {22, "The ceiling is not 1 to 500.", "Give a ceiling of 1 to 500 collections a batch."},
-    {23, "A line is not a frame of its kind, or lacks its LF.", "Correct that line."},
-    {24, "The list has no creditor line, or no collection.", "Complete the list: the creditor on line 1, a collection on each further line."},
+    {23, "A line is not a frame of its kind, or lacks its LF.",
+     "Correct that line. docs/FORMATS.md takes a line apart, byte by byte."},
+    {24, "The list has no creditor line, or no collection.",
+     "Complete the list: the creditor on line 1, a collection on each further line."},
     {25, "The list has more than 1,000 collections.", "Split the list."},
-    {26, "A value breaks its rule.", "Correct that value."},
-    {27, "More than 64 batches are needed: no message carries these collections with no batch above the ceiling.", "Raise the ceiling, or split the list."},
+    {26, "A value breaks its rule.", "Correct that value. docs/FORMATS.md has every rule with examples."},
+    {27,
+     "More than 64 batches are needed: no message carries these collections with no batch above the ceiling.",
+     "Raise the ceiling, or split the list."},
     {28, "The output is too short.", "Lend an output of as many bytes as the place says."},
 };
 
 const struct words *words_of(uint64_t number) {
-    static const struct words unknown = {0, "This number is not known to the command.", "Use a command and a library of the same version."};
+    static const struct words unknown = {0, "This number is not known to the command.",
+                                         "Use a command and a library of the same version."};
     for (size_t i = 0; i < sizeof WORDS / sizeof *WORDS; i++)
         if (WORDS[i].number == number) return &WORDS[i];
     return &unknown;
@@ -48,7 +57,8 @@ const char *const RULE[RULES] = {
     [DATE] = "a real day as YYYY-MM-DD, years 1900 to 2099",
     [TIME] = "a real day, T and a time as YYYY-MM-DDThh:mm:ss, years 1900 to 2099",
     [IBAN] = "two capitals, two digits, 1 to 30 letters or digits, the check digits being right",
-    [BIC] = "four capitals or digits, two capitals, two capitals or digits, optionally three more; not NOTPROVIDED",
+    [BIC] = "four capitals or digits, two capitals, two capitals or digits, optionally three more; not "
+            "NOTPROVIDED",
     [CREDITOR] = "two capitals, two digits, three capitals or digits, then 1 to 28 capitals or digits",
     [METHOD] = "DD",
     [BOOKING] = "true or false",
@@ -57,14 +67,20 @@ const char *const RULE[RULES] = {
     [SEQUENCE] = "FRST, RCUR, OOFF or FNAL",
     [CHARGES] = "SLEV",
     [NOBANK] = "NOTPROVIDED",
+    [SCHEME_BYTE] = "0 (CORE) or 1 (B2B)",
+    [SEQUENCE_BYTE] = "0 (FRST), 1 (RCUR), 2 (OOFF) or 3 (FNAL)",
+    [CENTS] = "1 to 99999999999 cents",
 };
 
+/* BtchBookg stands before the count and the sum of a batch; the header, which has those first, has no
+   BtchBookg. */
 const struct element ELEMENTS[] = {
     {"Document", 0, HOLDER},
     {"CstmrDrctDbtInitn", 0, HOLDER},
     {"GrpHdr", 0, HOLDER},
     {"MsgId", 0, IDENTIFIER},
     {"CreDtTm", 0, TIME},
+    {"BtchBookg", 0, BOOKING},
     {"NbOfTxs", 0, COUNT},
     {"CtrlSum", 0, SUM},
     {"InitgPty", 0, HOLDER},
@@ -72,7 +88,6 @@ const struct element ELEMENTS[] = {
     {"PmtInf", 0, HOLDER},
     {"PmtInfId", 0, IDENTIFIER},
     {"PmtMtd", 0, METHOD},
-    {"BtchBookg", 0, BOOKING},
     {"PmtTpInf", 0, HOLDER},
     {"SvcLvl", 0, HOLDER},
     {"LclInstrm", 0, HOLDER},

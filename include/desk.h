@@ -3,7 +3,7 @@
    Both functions are proved: they take any bytes of any length, end, and leave answer and buffers exactly as said here.
    docs/PROMISES.md names the theorems, docs/NUMBERS.md has an example of each number.
 
-   A pointer goes to as many elements as the length behind it says; it is not null, also where that length is 0.
+   A pointer goes to as many elements as the length after it says; it is not null, also where that length is 0.
    The buffers of one call do not overlap. Nothing is allocated, and nothing is kept between calls; a call needs at most DESK_STACK bytes of stack. */
 #ifndef DESK_H
 #define DESK_H
@@ -14,6 +14,9 @@
 #ifdef __cplusplus
 extern "C" {
 #endif
+
+/* Of this header, of the library and of the command; CHANGELOG.md says what each version brought. */
+#define DESK_VERSION "1.0.0"
 
 /* The limits of the profile. */
 #define DESK_BYTES 1048576      /* of a message, of a day list */
@@ -64,7 +67,7 @@ extern "C" {
         Place: the numbers needed, 8 for each batch. Mend: lend a table of that length; DESK_ROWS always suffices.
 
    6 and 7 go batch by batch: the count of a batch, its sum, the next batch. A count or sum that a batch does not declare is
-   compared with nothing and told as absent.
+   compared with nothing and reported as absent.
 
    A refusal changes neither table. An accepted message puts its rows at the start of each; every number beyond them stays.
 

@@ -15,5 +15,7 @@ int fputs(const char *, FILE *);
 int printf(const char *, ...) __attribute__((format(printf, 1, 2)));
 int fprintf(FILE *, const char *, ...) __attribute__((format(printf, 2, 3)));
 int snprintf(char *, size_t, const char *, ...) __attribute__((format(printf, 3, 4)));
-int rename(const char *, const char *);
+int renameat(int, const char *, int, const char *);
+FILE *open_memstream(char **, size_t *);
+FILE *fmemopen(void *, size_t, const char *);
 #endif

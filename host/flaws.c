@@ -1,0 +1,294 @@
+/* Which test of its rule a text breaks, in a sentence. The library has refused the text; what is said here
+   only explains it. */
+#include <inttypes.h>
+#include <string.h>
+#include "host.h"
+
+#define LETTERS "abcdefghijklmnopqrstuvwxyzABCDEFGHIJKLMNOPQRSTUVWXYZ0123456789/-?:().,'+ "
+
+/* "Character 4 is "_"": the character that begins at this byte, with its bytes where it has more than one. */
+static void say_character(FILE *to, struct text text, size_t at) {
+    size_t n = character_length(text, at);
+    n += n == 0;
+    fprintf(to, "Character %zu is ", at + 1);
+    print_text(to, (struct text){text.bytes + at, n});
+    if (n > 1) {
+        fputs(" (bytes", to);
+        for (size_t i = 0; i < n; i++) fprintf(to, " %02X", text.bytes[at + i]);
+        fputc(')', to);
+    }
+}
+
+static size_t say_empty(FILE *to) {
+    fputs("It is empty.", to);
+    return 0;
+}
+
+/* ─── letters: a length, the letter set, slashes ─── */
+
+static size_t find_slash(struct text text) {
+    for (size_t i = 0; i < text.length; i++)
+        if (text.bytes[i] == '/' && (i == 0 || i + 1 == text.length || text.bytes[i + 1] == '/')) return i;
+    return text.length;
+}
+
+static size_t letters_flaw(FILE *to, struct text text, size_t most, int slashes) {
+    if (text.length == 0) return say_empty(to);
+    if (text.length > most) {
+        fprintf(to, "It has %zu characters; at most %zu are allowed.", text.length, most);
+        return most;
+    }
+    for (size_t i = 0; i < text.length; i++)
+        if (!text.bytes[i] || !strchr(LETTERS, text.bytes[i])) {
+            say_character(to, text, i);
+            fputs(", which is not in the letter set.", to);
+            return i;
+        }
+    size_t at = slashes ? find_slash(text) : text.length;
+    if (at == text.length) return 0;
+    fputs(at == 0                 ? "It begins with a slash."
+          : at + 1 == text.length ? "It ends with a slash."
+                                  : "It has two slashes in a row.",
+          to);
+    return at;
+}
+
+/* ─── numbers: digits, a point, one or two digits ─── */
+
+static size_t digits_from(struct text text, size_t at) {
+    size_t n = 0;
+    while (at + n < text.length && text.bytes[at + n] >= '0' && text.bytes[at + n] <= '9') n++;
+    return n;
+}
+
+static size_t number_flaw(FILE *to, struct text text, size_t most, int money) {
+    size_t whole = digits_from(text, 0), after;
+    if (text.length == 0) return say_empty(to);
+    if (whole < text.length && (!money || text.bytes[whole] != '.' || whole == 0)) {
+        say_character(to, text, whole);
+        if (whole == 0)
+            fputs("; it must begin with a digit.", to);
+        else if (money)
+            fputs(text.bytes[whole] == ',' ? "; the decimal mark is a point."
+                                           : "; only digits and one point are allowed.",
+                  to);
+        else
+            fputs("; only digits are allowed.", to);
+        return whole;
+    }
+    if (whole > most) {
+        fprintf(to, "It has %zu digits%s; at most %zu are allowed.", whole, money ? " before the point" : "",
+                most);
+        return most;
+    }
+    if (whole == text.length) {
+        fputs("It is worth 0; the least is 0.01.", to);
+        return 0;
+    }
+    after = digits_from(text, whole + 1);
+    if (whole + 1 + after < text.length) {
+        say_character(to, text, whole + 1 + after);
+        fputs("; after the point only one or two digits are allowed.", to);
+        return whole + 1 + after;
+    }
+    if (after == 0 || after > 2) {
+        fprintf(to, "It has %zu digits after the point; one or two are allowed.", after);
+        return whole + 1 + (after > 2 ? 2 : 0);
+    }
+    fputs("It is worth 0; the least is 0.01.", to);
+    return 0;
+}
+
+/* ─── shapes: a pattern of characters, and how many more may follow ───
+
+   In a pattern A is a capital, 9 a digit, N a capital or a digit, X a letter or a digit; any other character
+   stands for itself. */
+
+struct shape {
+    const char *front;  /* the pattern of the first characters */
+    char rest;          /* that of each that follows */
+    size_t least, most; /* how many follow */
+    const char *of;
+};
+
+static int is_capital(uint8_t c) { return c >= 'A' && c <= 'Z'; }
+static int is_digit(uint8_t c) { return c >= '0' && c <= '9'; }
+
+static int fits(char pattern, uint8_t c) {
+    if (pattern == 'A') return is_capital(c);
+    if (pattern == '9') return is_digit(c);
+    if (pattern == 'N') return is_capital(c) || is_digit(c);
+    if (pattern == 'X') return is_capital(c) || is_digit(c) || (c >= 'a' && c <= 'z');
+    return pattern == c;
+}
+
+static void say_pattern(FILE *to, char pattern) {
+    if (pattern == 'A')
+        fputs("a capital letter", to);
+    else if (pattern == '9')
+        fputs("a digit", to);
+    else if (pattern == 'N')
+        fputs("a capital letter or a digit", to);
+    else if (pattern == 'X')
+        fputs("a letter or a digit", to);
+    else
+        fprintf(to, "\"%c\"", pattern);
+}
+
+/* Whether the text has the shape; where it has not, the sentence is said and `at` is its byte at fault. */
+static int has_shape(FILE *to, struct text text, const struct shape *shape, size_t *at) {
+    size_t front = strlen(shape->front), i;
+    for (i = 0; i < text.length && i < front + shape->most; i++) {
+        char pattern = i < front ? shape->front[i] : shape->rest;
+        if (fits(pattern, text.bytes[i])) continue;
+        say_character(to, text, i);
+        if (text.bytes[i] == ' ') {
+            fprintf(to, "; %s has no spaces.", shape->of);
+        } else {
+            fputs("; ", to);
+            say_pattern(to, pattern);
+            fputs(" must stand there.", to);
+        }
+        *at = i;
+        return 0;
+    }
+    *at = i;
+    if (text.length > front + shape->most)
+        fprintf(to, "It has %zu characters; %s has at most %zu.", text.length, shape->of,
+                front + shape->most);
+    else if (text.length < front + shape->least)
+        fprintf(to, "It ends after %zu characters; %s has at least %zu.", text.length, shape->of,
+                front + shape->least);
+    else
+        return 1;
+    return 0;
+}
+
+/* ─── dates ─── */
+
+static unsigned two_digits(struct text text, size_t at) {
+    return (text.bytes[at] - '0') * 10U + (text.bytes[at + 1] - '0');
+}
+
+/* The parts of a date and time whose shape is right. */
+static size_t clock_flaw(FILE *to, struct text text) {
+    static const struct {
+        const char *name;
+        size_t at;
+        unsigned most;
+    } parts[] = {{"hour", 11, 23}, {"minute", 14, 59}, {"second", 17, 59}};
+    for (size_t i = 0; i < 3; i++) {
+        unsigned n = two_digits(text, parts[i].at);
+        if (n <= parts[i].most) continue;
+        fprintf(to, "The %s is %02u; the highest is %u.", parts[i].name, n, parts[i].most);
+        return parts[i].at;
+    }
+    return 0;
+}
+
+static size_t date_flaw(FILE *to, struct text text, int time) {
+    static const struct shape date = {"9999-99-99", 0, 0, 0, "a date, as 2026-11-10,"};
+    static const struct shape date_time = {"9999-99-99T99:99:99", 0, 0, 0, "a time, as 2026-11-10T09:30:00,"};
+    static const char *const months[] = {"January",   "February", "March",    "April",
+                                         "May",       "June",     "July",     "August",
+                                         "September", "October",  "November", "December"};
+    static const unsigned most[] = {31, 28, 31, 30, 31, 30, 31, 31, 30, 31, 30, 31};
+    size_t at;
+    if (!has_shape(to, text, time ? &date_time : &date, &at)) return at;
+    unsigned year = two_digits(text, 0) * 100 + two_digits(text, 2), month = two_digits(text, 5),
+             day = two_digits(text, 8);
+    if (year < 1900 || year > 2099) {
+        fprintf(to, "The year is %04u; years go from 1900 to 2099.", year);
+        return 0;
+    }
+    if (month < 1 || month > 12) {
+        fprintf(to, "The month is %02u; months go from 01 to 12.", month);
+        return 5;
+    }
+    unsigned days = most[month - 1] + (month == 2 && (year % 4 == 0 && (year % 100 != 0 || year % 400 == 0)));
+    if (day < 1 || day > days) {
+        fprintf(to, "The day is %02u; %s %u has the days 01 to %u.", day, months[month - 1], year, days);
+        return 8;
+    }
+    return time ? clock_flaw(to, text) : 0;
+}
+
+/* ─── IBAN, BIC, creditor identifier ─── */
+
+/* What the number of an IBAN leaves on division by 97: its first four characters come last, and letters are
+   read as 10 to 35. */
+static unsigned remainder_of(struct text iban) {
+    unsigned n = 0;
+    for (size_t i = 0; i < iban.length; i++) {
+        uint8_t c = iban.bytes[(i + 4) % iban.length];
+        if (is_digit(c))
+            n = (n * 10 + (c - '0')) % 97;
+        else
+            n = (n * 100 + (is_capital(c) ? c - 'A' : c - 'a') + 10U) % 97;
+    }
+    return n;
+}
+
+static size_t iban_flaw(FILE *to, struct text text) {
+    static const struct shape shape = {"AA99", 'X', 1, 30, "an IBAN"};
+    size_t at;
+    if (!has_shape(to, text, &shape, &at)) return at;
+    fprintf(to, "The check digits do not fit: the number leaves %u on division by 97, and must leave 1. ",
+            remainder_of(text));
+    fputs("A digit or letter is likely mistyped.", to);
+    return 2;
+}
+
+static size_t bic_flaw(FILE *to, struct text text) {
+    static const struct shape shape = {"NNNNAANN", 'N', 0, 3, "a BIC"};
+    size_t at;
+    if (!has_shape(to, text, &shape, &at)) return at;
+    if (text.length == 11) {
+        fputs("NOTPROVIDED is no BIC. A message says Othr, Id and NOTPROVIDED in the place of BICFI; a list "
+              "leaves the BIC empty.",
+              to);
+        return 0;
+    }
+    fprintf(to, "It has %zu characters; a BIC has 8 or 11.", text.length);
+    return 8;
+}
+
+static size_t creditor_flaw(FILE *to, struct text text) {
+    static const struct shape shape = {"AA99NNN", 'N', 1, 28, "a creditor identifier"};
+    size_t at;
+    has_shape(to, text, &shape, &at);
+    return at;
+}
+
+/* ─── codes and numbers of a list ─── */
+
+static size_t code_flaw(FILE *to, struct text text) {
+    if (text.length == 0) return say_empty(to);
+    fputs("It is no code that may stand there; capitals and small letters differ, and spaces count.", to);
+    return 0;
+}
+
+static size_t value_flaw(FILE *to, struct text text) {
+    fprintf(to, "It is %" PRIu64 ".", number_of(text));
+    return 0;
+}
+
+size_t explain_flaw(FILE *to, enum rule rule, struct text text) {
+    switch (rule) {
+    case IDENTIFIER: return letters_flaw(to, text, 35, 1);
+    case NAME: return letters_flaw(to, text, 70, 0);
+    case REMITTANCE: return letters_flaw(to, text, 140, 0);
+    case COUNT: return number_flaw(to, text, 15, 0);
+    case SUM: return number_flaw(to, text, 15, 1);
+    case AMOUNT: return number_flaw(to, text, 9, 1);
+    case DATE: return date_flaw(to, text, 0);
+    case TIME: return date_flaw(to, text, 1);
+    case IBAN: return iban_flaw(to, text);
+    case BIC: return bic_flaw(to, text);
+    case CREDITOR: return creditor_flaw(to, text);
+    case SCHEME_BYTE:
+    case SEQUENCE_BYTE:
+    case CENTS: return value_flaw(to, text);
+    default: return code_flaw(to, text);
+    }
+}
