@@ -69,15 +69,24 @@ static int open_lines(struct lines *lines) {
     return lines->to ? DONE : trouble("collect", "lines", strerror(errno));
 }
 
-/* Each line with a name before it, where one is given. */
+/* All of them are there. */
+static int close_lines(struct lines *lines) {
+    int whole = !ferror(lines->to);
+    return fclose(lines->to) == 0 && whole ? DONE : trouble("collect", "lines", strerror(errno));
+}
+
+/* A line begins with the name of its file, where one is given. */
+static void print_name(FILE *to, const char *name) {
+    if (!name) return;
+    print_word(to, name);
+    fputs(": ", to);
+}
+
 static void print_lines(FILE *to, const char *name, const char *text) {
     for (size_t n; *text; text += n) {
         n = strcspn(text, "\n");
         n += text[n] != 0;
-        if (name) {
-            print_word(to, name);
-            fputs(": ", to);
-        }
+        print_name(to, name);
         fwrite(text, 1, n, to);
     }
 }
@@ -96,11 +105,13 @@ static void print_declared(FILE *to, uint64_t mark, uint64_t value) {
 }
 
 /* Document 01's lines for an accepted message. */
-static void print_accepted(FILE *to, const struct desk_checked *answer) {
+static void print_accepted(FILE *to, const char *name, const struct desk_checked *answer) {
+    print_name(to, name);
     fprintf(to, "OK %" PRIu64 " %" PRIu64 " %" PRIu64 "\n", answer->batches, answer->transactions,
             answer->cents);
     for (uint64_t i = 0; i < answer->batches; i++) {
         const uint64_t *row = rows + i * DESK_ROW;
+        print_name(to, name);
         fprintf(to, "B %" PRIu64 " %" PRIu64 " %" PRIu64, i + 1, row[1], row[2]);
         print_declared(to, row[3], row[4]);
         print_declared(to, row[5], row[6]);
@@ -109,11 +120,19 @@ static void print_accepted(FILE *to, const struct desk_checked *answer) {
 }
 
 /* Of a check, or of a write whose message was checked then. */
-static void print_answer(FILE *to, uint64_t number, uint64_t place, const struct desk_checked *accepted) {
-    if (number == 0)
-        print_accepted(to, accepted);
-    else
+static void print_answer(FILE *to, const char *name, uint64_t number, uint64_t place,
+                         const struct desk_checked *accepted) {
+    if (number == 0) {
+        print_accepted(to, name, accepted);
+    } else {
+        print_name(to, name);
         print_refusal(to, number, place);
+    }
+}
+
+/* The lines of an explanation for JSON, which has none where none was asked for. */
+static const char *explanation_of(const struct request *request, const struct lines *said) {
+    return request->option[EXPLAIN] ? said->text : 0;
 }
 
 /* ─── check ─── */
@@ -144,35 +163,35 @@ static void say_undeclared(const char *name, const struct desk_checked *answer) 
     fputc('\n', stderr);
 }
 
-static int report_checked(const struct request *request, const char *name, struct text message,
-                          const struct desk_checked *answer, enum status status) {
-    struct lines lines;
-    if (open_lines(&lines) != DONE) return FAILED;
-    if (!request->option[JSON]) print_answer(lines.to, answer->number, answer->place, answer);
-    if (request->option[EXPLAIN]) explain_check(lines.to, message, answer, rows);
-    fclose(lines.to);
-    if (request->option[JSON])
-        print_json_checked(stdout, name, status, message, answer, rows,
-                           request->option[EXPLAIN] ? lines.text : 0);
-    else
-        print_lines(stdout, request->inputs_count > 1 ? name : 0, lines.text);
-    free(lines.text);
-    return flushed(stdout);
+/* The lines, or the object of JSON, of a message; `said` are those of its explanation. */
+static void print_checked(const struct request *request, const char *name, enum status status,
+                          struct text message, const struct desk_checked *answer, const struct lines *said) {
+    if (request->option[JSON]) {
+        print_json_checked(stdout, name, status, message, answer, rows, explanation_of(request, said));
+    } else {
+        const char *before = request->inputs_count > 1 ? name : 0;
+        print_answer(stdout, before, answer->number, answer->place, answer);
+        print_lines(stdout, before, said->text);
+    }
 }
 
 static enum status check_file(const struct request *request, const char *name) {
     struct text message;
+    struct lines said;
     if (read_input(name, &message) != DONE) {
         if (request->option[JSON]) print_json_failed(stdout, name);
         return FAILED;
     }
     struct desk_checked answer =
         desk_check(message.bytes, message.length, slips, DESK_SLIPS, rows, DESK_ROWS);
-    enum status status = answer.number != 0                                    ? REFUSED
-                         : request->option[DECLARED] && !declares_all(&answer) ? UNDECLARED
-                                                                               : DONE;
-    if (!request->option[QUIET] && report_checked(request, name, message, &answer, status) != DONE)
-        return FAILED;
+    enum status status = answer.number != 0 ? REFUSED : DONE;
+    if (status == DONE && request->option[DECLARED] && !declares_all(&answer)) status = UNDECLARED;
+    if (open_lines(&said) != DONE) return FAILED;
+    if (request->option[EXPLAIN]) explain_check(said.to, message, &answer, rows);
+    if (close_lines(&said) != DONE) return FAILED;
+    if (!request->option[QUIET]) print_checked(request, name, status, message, &answer, &said);
+    free(said.text);
+    if (flushed(stdout) != DONE) return FAILED;
     if (status == UNDECLARED) say_undeclared(name, &answer);
     return status;
 }
@@ -228,36 +247,37 @@ static void explain_written(FILE *to, const struct request *request, struct text
     explain_check(to, (struct text){made, (size_t)answer->place}, checked, rows);
 }
 
-static int report_written(const struct request *request, struct text list, const struct desk_written *answer,
-                          const struct desk_checked *checked) {
-    struct lines lines;
-    if (request->option[QUIET]) return DONE;
-    if (open_lines(&lines) != DONE) return FAILED;
-    if (!request->option[JSON]) print_answer(lines.to, answer->number, answer->place, checked);
-    if (request->option[EXPLAIN]) explain_written(lines.to, request, list, answer, checked);
-    fclose(lines.to);
-    if (request->option[JSON])
-        print_json_written(lines_of(request), request->inputs[0], answer, checked, rows,
-                           request->option[EXPLAIN] ? lines.text : 0);
-    else
-        print_lines(lines_of(request), 0, lines.text);
-    free(lines.text);
-    return DONE;
+static void print_written(const struct request *request, const struct desk_written *answer,
+                          const struct desk_checked *checked, const struct lines *said) {
+    FILE *to = lines_of(request);
+    if (request->option[JSON]) {
+        print_json_written(to, request->inputs[0], answer, checked, rows, explanation_of(request, said));
+    } else {
+        print_answer(to, 0, answer->number, answer->place, checked);
+        print_lines(to, 0, said->text);
+    }
 }
 
+/* The explanation is collected before the message is delivered: what can fail then is only the printing. */
 static int run_write(const struct request *request) {
     struct text list;
+    struct lines said;
     struct desk_checked checked = {0, 0, 0, 0, 0};
     if (read_input(request->inputs[0], &list) != DONE) return FAILED;
     struct desk_written answer = desk_write(list.bytes, list.length, request->ceiling, made, sizeof made);
-    if (answer.number != 0)
-        return report_written(request, list, &answer, &checked) == DONE ? refused(request) : FAILED;
-    checked = desk_check(made, (size_t)answer.place, slips, DESK_SLIPS, rows, DESK_ROWS);
+    struct text message = {made, answer.number == 0 ? (size_t)answer.place : 0};
+    if (answer.number == 0)
+        checked = desk_check(message.bytes, message.length, slips, DESK_SLIPS, rows, DESK_ROWS);
     if (checked.number != 0)
         return trouble("write", "the message",
                        "the check refuses it; command and library do not belong together");
-    if (deliver(request, (struct text){made, (size_t)answer.place}) != DONE) return FAILED;
-    return report_written(request, list, &answer, &checked) == DONE ? finish(request) : FAILED;
+    if (open_lines(&said) != DONE) return FAILED;
+    if (request->option[EXPLAIN]) explain_written(said.to, request, list, &answer, &checked);
+    if (close_lines(&said) != DONE) return FAILED;
+    if (answer.number == 0 && deliver(request, message) != DONE) return FAILED;
+    if (!request->option[QUIET]) print_written(request, &answer, &checked, &said);
+    free(said.text);
+    return answer.number == 0 ? finish(request) : refused(request);
 }
 
 /* ─── list and show ─── */
@@ -283,7 +303,7 @@ static int run_list(const struct request *request) {
         return trouble("read", request->inputs[0], "it is longer than 1,048,576 bytes");
     if (open_lines(&lines) != DONE) return FAILED;
     size_t length = list_of_csv(lines.to, csv, request->option + CREDITOR_OPTION, made, sizeof made);
-    fclose(lines.to);
+    if (close_lines(&lines) != DONE) return FAILED;
     if (!request->option[QUIET]) print_lines(lines_of(request), 0, lines.text);
     free(lines.text);
     if (length == 0) return refused(request);
@@ -306,7 +326,7 @@ static int run_show(const struct request *request) {
     }
     if (open_lines(&lines) != DONE) return FAILED;
     print_csv(lines.to, list);
-    fclose(lines.to);
+    if (close_lines(&lines) != DONE) return FAILED;
     int status = deliver(request, (struct text){(const uint8_t *)lines.text, lines.length});
     free(lines.text);
     return status;

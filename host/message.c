@@ -141,26 +141,26 @@ static void print_allowed(FILE *to, struct text message, const struct spot *spot
 
 /* ─── the refusals ─── */
 
-/* The last bytes, but for white space. */
-static void print_end(FILE *to, struct text message) {
-    while (message.length > 0 && message.bytes[message.length - 1] <= ' ') message.length--;
-    print_marked(to, "It ends: ", message, message.length);
+static struct text without_white_end(struct text text) {
+    while (text.length > 0 && text.bytes[text.length - 1] <= ' ') text.length--;
+    return text;
 }
 
 static void explain_cut_off(FILE *to, struct text message) {
     struct spot spot;
-    find(message, message.length, &spot);
-    if (message.length == 0) {
+    struct text last = without_white_end(message);
+    if (last.length == 0) {
         fputs("The file is empty.\nTo mend: Fetch it again.\n", to);
         return;
     }
+    find(message, message.length, &spot);
     fputs("The file is cut off: it ends before the message does.\n", to);
     print_place(to, message, message.length);
     print_element(to, message, &spot, message.length);
-    print_end(to, message);
+    print_marked(to, "It ends: ", last, last.length);
     explain_so_far(to, message);
-    fputs("To mend: Fetch the file again, whole. Never close the tags by hand: what is missing would not be "
-          "collected.\n",
+    fputs("To mend: Fetch the file again, whole. "
+          "Never close the tags by hand: what is missing would not be collected.\n",
           to);
 }
 

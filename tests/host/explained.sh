@@ -68,6 +68,18 @@ hint "(head -c 900 examples/day.xml; head -c 100 /dev/zero)" 'From here on the f
 hint "sed 's/<PmtInf>/<!-- x --><PmtInf>/' examples/day.xml" 'A comment stands there; the profile has none.' 'Take it out.'
 hint "sed 's/<BtchBookg>true<.BtchBookg>/<BtchBookg\\/>/' examples/day.xml" 'An empty-element tag stands there; the profile has none.' 'Write the opening tag, the content and the closing tag.'
 
+# A file that is cut off: in the header, in an amount, in white space.
+expect "head -c 190 examples/day.xml | desk check --explain - | tail -n +6" 0 '                                                     ^
+So far: 0 whole transactions, 0.00 EUR.
+The file ends before the header declares a count or a sum.
+To mend: Fetch the file again, whole. Never close the tags by hand: what is missing would not be collected.'
+expect "head -c 960 examples/day.xml | desk check --explain - | sed -n 7,9p" 0 'So far: 0 whole transactions, 0.00 EUR; one more is begun and not whole.
+The header declares 2 transactions and 3250.15 EUR.
+Missing: 2 transactions, 3250.15 EUR.'
+expect "printf ' \n' | desk check --explain -" 1 'NO 2 2
+The file is empty.
+To mend: Fetch it again.'
+
 # The namespace of another message; what may stand there, in message order.
 expect "sed 's/008.001.08/001.001.09/' examples/day.xml | desk check --explain - | sed -n 8p" 0 'The namespace is that of "pain.001.001.09", a credit transfer; the desk reads pain.008.001.08.'
 expect "sed 's/008.001.08/053.001.08/; s/pain/camt/' examples/day.xml | desk check --explain - | sed -n 8p" 0 'The namespace is that of "camt.053.001.08", a statement or report of an account; the desk reads pain.008.001.08.'
