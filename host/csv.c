@@ -51,9 +51,7 @@ static size_t first_of(const struct kind *kind) { return kind == &CREDITOR_LINE 
 
 /* The words of a scheme or a sequence, in the order of their numbers; null for other rules. */
 static const char *const *words_by(enum rule rule) {
-    static const char *const schemes[] = {"CORE", "B2B", 0}, *const sequences[] = {"FRST", "RCUR", "OOFF",
-                                                                                   "FNAL", 0};
-    return rule == SCHEME_BYTE ? schemes : rule == SEQUENCE_BYTE ? sequences : 0;
+    return rule == SCHEME_BYTE ? SCHEMES : rule == SEQUENCE_BYTE ? SEQUENCES : 0;
 }
 
 /* ─── places ─── */

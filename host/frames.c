@@ -5,8 +5,7 @@
 
 /* ─── fields ─── */
 
-#define GOOD(s)                                                                                              \
-    { (const uint8_t *)s, sizeof s - 1 }
+#define GOOD(s) {(const uint8_t *)s, sizeof s - 1}
 
 static const struct field CREDITOR_FIELD[CREDITOR_FIELDS] = {
     {"message id", IDENTIFIER, 0, 0, GOOD("A")},

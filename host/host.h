@@ -32,6 +32,8 @@ enum rule {
     SEPA, SCHEME, SEQUENCE, CHARGES, NOBANK, SCHEME_BYTE, SEQUENCE_BYTE, CENTS, RULES
 };
 extern const char *const RULE[RULES];
+/* The codes of a scheme and of a sequence, in the order of their numbers; then null. */
+extern const char *const SCHEMES[], *const SEQUENCES[];
 
 /* The elements of the profile, in message order: the name, one of the two elements around it where the name
    alone does not give the rule, and the rule; HOLDER: it holds elements. */

@@ -142,14 +142,12 @@ static void print_figures(FILE *to, const struct figures *of) {
 }
 
 static void print_totals(FILE *to, const struct totals *totals, const uint64_t *rows) {
-    static const char *const schemes[] = {"CORE", "B2B"}, *const sequences[] = {"FRST", "RCUR", "OOFF",
-                                                                                "FNAL"};
     for (size_t i = 0; i < totals->batches; i++) {
         fprintf(to, "Batch %zu, PmtInfId ", i + 1);
         print_text(to, totals->batch[i].id);
         if (rows)
-            fprintf(to, ", %s %s", schemes[rows[i * DESK_ROW + 7] / 4 % 2],
-                    sequences[rows[i * DESK_ROW + 7] % 4]);
+            fprintf(to, ", %s %s", SCHEMES[rows[i * DESK_ROW + 7] / 4 % 2],
+                    SEQUENCES[rows[i * DESK_ROW + 7] % 4]);
         fputc('\n', to);
         print_figures(to, &totals->batch[i]);
     }
@@ -189,8 +187,7 @@ void explain_declared(FILE *to, struct text message, const uint64_t *rows) {
     }
     print_totals(to, &totals, rows);
     if (absent)
-        fputs("Where a batch declares none, only the header's total was compared. A header that was made "
-              "after\n"
+        fputs("Where a batch declares none, only the header's total was compared. A header that was made after\n"
               "transactions were lost does not show the loss: compare such a batch with your own list.\n",
               to);
 }
@@ -199,7 +196,7 @@ void explain_declared(FILE *to, struct text message, const uint64_t *rows) {
 static void print_missing(FILE *to, const struct totals *totals) {
     const struct figures *all = &totals->all;
     if (!all->declares_count && !all->declares_sum) {
-        fputs("The file ends before the header declares a count or a sum.\n", to);
+        fputs("What the header declares does not stand there.\n", to);
         return;
     }
     fputs("The header declares ", to);

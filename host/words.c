@@ -2,8 +2,7 @@
 #include <string.h>
 #include "host.h"
 
-#define FIND_LOST(what, declared)                                                                            \
-    "Find the " what ". Correct the " declared " only where it was declared wrong."
+#define FIND_LOST(what, figure) "Find the " what ". Correct the " figure " only where it was declared wrong."
 
 static const struct words WORDS[] = {
     {1, "The message is longer than 1,048,576 bytes.", "Split the run into several messages."},
@@ -71,6 +70,9 @@ const char *const RULE[RULES] = {
     [SEQUENCE_BYTE] = "0 (FRST), 1 (RCUR), 2 (OOFF) or 3 (FNAL)",
     [CENTS] = "1 to 99999999999 cents",
 };
+
+const char *const SCHEMES[] = {"CORE", "B2B", 0};
+const char *const SEQUENCES[] = {"FRST", "RCUR", "OOFF", "FNAL", 0};
 
 /* BtchBookg stands before the count and the sum of a batch; the header, which has those first, has no
    BtchBookg. */

@@ -71,7 +71,7 @@ hint "sed 's/<BtchBookg>true<.BtchBookg>/<BtchBookg\\/>/' examples/day.xml" 'An 
 # A file that is cut off: in the header, in an amount, in white space.
 expect "head -c 190 examples/day.xml | desk check --explain - | tail -n +6" 0 '                                                     ^
 So far: 0 whole transactions, 0.00 EUR.
-The file ends before the header declares a count or a sum.
+What the header declares does not stand there.
 To mend: Fetch the file again, whole. Never close the tags by hand: what is missing would not be collected.'
 expect "head -c 960 examples/day.xml | desk check --explain - | sed -n 7,9p" 0 'So far: 0 whole transactions, 0.00 EUR; one more is begun and not whole.
 The header declares 2 transactions and 3250.15 EUR.
