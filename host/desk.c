@@ -9,8 +9,8 @@
 static const char HELP_TEXT[] =
     "desk checks SEPA direct-debit messages (pain.008.001.08), and writes one from a day list.\n"
     "\n"
-    "    desk check FILE.. [--explain | --json | --quiet] [--declared]\n"
-    "    desk write LIST --ceiling N [-o FILE] [--explain | --json | --quiet]\n"
+    "    desk check FILE.. [--declared] [--explain] [--json] [--quiet]\n"
+    "    desk write LIST --ceiling N [-o FILE] [--explain] [--json] [--quiet]\n"
     "    desk list CSV [-o LIST] [--FIELD VALUE ..] [--quiet]\n"
     "    desk show LIST [-o CSV]\n"
     "    desk -h | --help | --version\n"
@@ -44,8 +44,8 @@ static const char HELP_TEXT[] =
     "\n"
     "--explain   says in words what is wrong, where, and what to mend; of totals the exact and the declared\n"
     "            figures, and where nothing is declared\n"
-    "--json      prints an object of JSON for each file, with every number\n"
-    "--quiet     prints nothing but trouble\n"
+    "--json      prints an object of JSON for each file, with every number; with --explain also the words\n"
+    "--quiet     prints nothing but trouble; goes with neither of the two\n"
     "--declared  ends with 3 where a batch of an accepted message declares no count or no sum, and names\n"
     "            the batches on standard error\n"
     "\n"
@@ -304,7 +304,11 @@ static int run_list(const struct request *request) {
     if (open_lines(&lines) != DONE) return FAILED;
     size_t length = list_of_csv(lines.to, csv, request->option + CREDITOR_OPTION, made, sizeof made);
     if (close_lines(&lines) != DONE) return FAILED;
-    if (!request->option[QUIET]) print_lines(lines_of(request), 0, lines.text);
+    const struct hint *hint = length == 0 ? hint_of_csv(csv) : 0;
+    if (!request->option[QUIET] && hint)
+        fprintf(lines_of(request), "%s\nTo mend: %s\n", hint->is, hint->mend);
+    else if (!request->option[QUIET])
+        print_lines(lines_of(request), 0, lines.text);
     free(lines.text);
     if (length == 0) return refused(request);
     if (deliver(request, (struct text){made, length}) != DONE) return FAILED;

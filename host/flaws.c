@@ -19,6 +19,13 @@ static void say_character(FILE *to, struct text text, size_t at) {
     }
 }
 
+/* "It has 36 characters", or bytes where a character of the text has more than one. */
+static void say_length(FILE *to, struct text text) {
+    size_t ascii = 0;
+    while (ascii < text.length && text.bytes[ascii] < 0x80) ascii++;
+    fprintf(to, "It has %zu %s", text.length, ascii == text.length ? "characters" : "bytes");
+}
+
 static size_t say_empty(FILE *to) {
     fputs("It is empty.", to);
     return 0;
@@ -35,7 +42,8 @@ static size_t find_slash(struct text text) {
 static size_t letters_flaw(FILE *to, struct text text, size_t most, int slashes) {
     if (text.length == 0) return say_empty(to);
     if (text.length > most) {
-        fprintf(to, "It has %zu characters; at most %zu are allowed.", text.length, most);
+        say_length(to, text);
+        fprintf(to, "; at most %zu are allowed.", most);
         return most;
     }
     for (size_t i = 0; i < text.length; i++)
@@ -61,8 +69,24 @@ static size_t digits_from(struct text text, size_t at) {
     return n;
 }
 
+/* Whether one or two digits stand after the point and nothing else; where not, that is said and `at` is the byte
+   at fault. */
+static int has_decimals(FILE *to, struct text text, size_t start, size_t *at) {
+    size_t n = digits_from(text, start);
+    *at = start + n;
+    if (start + n < text.length) {
+        say_character(to, text, start + n);
+        fputs("; after the point only one or two digits are allowed.", to);
+        return 0;
+    }
+    if (n == 1 || n == 2) return 1;
+    fprintf(to, "It has %zu digits after the point; one or two are allowed.", n);
+    if (n > 2) *at = start + 2;
+    return 0;
+}
+
 static size_t number_flaw(FILE *to, struct text text, size_t most, int money) {
-    size_t whole = digits_from(text, 0), after;
+    size_t whole = digits_from(text, 0), at;
     if (text.length == 0) return say_empty(to);
     if (whole < text.length && (!money || text.bytes[whole] != '.' || whole == 0)) {
         say_character(to, text, whole);
@@ -81,20 +105,7 @@ static size_t number_flaw(FILE *to, struct text text, size_t most, int money) {
                 most);
         return most;
     }
-    if (whole == text.length) {
-        fputs("It is worth 0; the least is 0.01.", to);
-        return 0;
-    }
-    after = digits_from(text, whole + 1);
-    if (whole + 1 + after < text.length) {
-        say_character(to, text, whole + 1 + after);
-        fputs("; after the point only one or two digits are allowed.", to);
-        return whole + 1 + after;
-    }
-    if (after == 0 || after > 2) {
-        fprintf(to, "It has %zu digits after the point; one or two are allowed.", after);
-        return whole + 1 + (after > 2 ? 2 : 0);
-    }
+    if (whole < text.length && !has_decimals(to, text, whole + 1, &at)) return at;
     fputs("It is worth 0; the least is 0.01.", to);
     return 0;
 }
@@ -153,15 +164,15 @@ static int has_shape(FILE *to, struct text text, const struct shape *shape, size
         return 0;
     }
     *at = i;
-    if (text.length > front + shape->most)
-        fprintf(to, "It has %zu characters; %s has at most %zu.", text.length, shape->of,
-                front + shape->most);
-    else if (text.length < front + shape->least)
+    if (text.length > front + shape->most) {
+        say_length(to, text);
+        fprintf(to, "; %s has at most %zu.", shape->of, front + shape->most);
+        return 0;
+    }
+    if (text.length < front + shape->least)
         fprintf(to, "It ends after %zu characters; %s has at least %zu.", text.length, shape->of,
                 front + shape->least);
-    else
-        return 1;
-    return 0;
+    return text.length >= front + shape->least;
 }
 
 /* ─── dates ─── */

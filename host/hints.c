@@ -78,6 +78,8 @@ static const struct hint MARKED = {"The file begins with a byte order mark (byte
                                    "Save it as UTF-8 without a byte order mark."};
 static const struct hint UTF16 = {"The file is UTF-16.", "Save it as UTF-8 without a byte order mark."};
 static const struct hint PACKED = {"The file is packed.", "Unpack it first."};
+static const struct hint A_SHEET = {"This looks like a spreadsheet's own file, or a packed one.",
+                                    "Save the sheet as CSV in UTF-8, and give that file."};
 static const struct hint A_LIST = {"This looks like a day list.",
                                    "`desk write LIST --ceiling N` writes its message."};
 static const struct hint A_MESSAGE = {"This looks like a message.", "`desk check FILE` checks it."};
@@ -129,4 +131,13 @@ const struct hint *hint_of_list(struct text list) {
     if (hint) return hint;
     if (is_message(list)) return &A_MESSAGE;
     return is_csv(list) ? &A_CSV : 0;
+}
+
+/* A CSV may begin with a byte order mark. */
+const struct hint *hint_of_csv(struct text csv) {
+    const struct hint *hint = hint_of_file(csv);
+    if (hint == &PACKED) return &A_SHEET;
+    if (hint == &UTF16) return hint;
+    if (is_message(csv)) return &A_MESSAGE;
+    return is_list(csv) ? &A_LIST : 0;
 }

@@ -119,8 +119,8 @@ size_t count_tags(struct text message, const char *tag);
 void add_up(struct text message, struct totals *totals);
 /* Adds up the whole transactions of a message that ends too soon; answers whether one more is begun. */
 int add_up_so_far(struct text message, struct totals *totals);
-/* The figures that refusal 6 to 9 is about. */
-const struct figures *figures_at(struct text message, const struct totals *totals, size_t place);
+/* The figures of so many batches as the library's rows have them. */
+void take_rows(struct totals *totals, size_t batches, const uint64_t *rows);
 /* Refusals 6 to 9: the declared figure at fault, the exact one, and all others. */
 void explain_totals(FILE *to, struct text message, uint64_t number, size_t place);
 /* What each batch of an accepted message declares, and where it declares nothing. */
@@ -128,7 +128,7 @@ void explain_declared(FILE *to, struct text message, const uint64_t *rows);
 /* What stands of a message that is cut off, and what is missing of what its header declares. */
 void explain_so_far(FILE *to, struct text message);
 
-/* ─── hints.c: what a file is that is neither a message nor a list ─── */
+/* ─── hints.c: what a refused file is, where it is not what its job reads ─── */
 
 /* What it is and what to mend, or null where nothing is known. */
 struct hint {
@@ -136,6 +136,7 @@ struct hint {
 };
 const struct hint *hint_of_message(struct text message, size_t place);
 const struct hint *hint_of_list(struct text list);
+const struct hint *hint_of_csv(struct text csv);
 /* Where the place lies in a namespace other than the profile's, which kind of message that is. */
 void explain_namespace(FILE *to, struct text message, size_t place);
 
@@ -143,6 +144,8 @@ void explain_namespace(FILE *to, struct text message, size_t place);
 
 /* `rows` are the batch rows of an accepted message. */
 void explain_check(FILE *to, struct text message, const struct desk_checked *answer, const uint64_t *rows);
+/* Whether a message is refused because it ends too soon. */
+int is_cut_off(struct text message, const struct desk_checked *answer);
 /* Line and column of a place, from 1, in bytes. */
 void line_and_column(struct text message, size_t place, size_t *line, size_t *column);
 

@@ -67,11 +67,7 @@ static void put_batches(FILE *to, const struct totals *totals) {
 
 static void put_rows(FILE *to, const struct desk_checked *answer, const uint64_t *rows) {
     struct totals totals;
-    totals.batches = answer->batches;
-    for (size_t i = 0; i < totals.batches; i++) {
-        const uint64_t *row = rows + i * DESK_ROW;
-        totals.batch[i] = (struct figures){{0, 0}, row[1], row[2], row[3] == 1, row[5] == 1, row[4], row[6]};
-    }
+    take_rows(&totals, (size_t)answer->batches, rows);
     put_number(to, "batches", answer->batches);
     put_number(to, "transactions", answer->transactions);
     put_number(to, "cents", answer->cents);
@@ -81,7 +77,7 @@ static void put_rows(FILE *to, const struct desk_checked *answer, const uint64_t
 /* The figures of refusals 6 to 9, and those of a message that is cut off. */
 static void put_totals(FILE *to, struct text message, const struct desk_checked *answer) {
     struct totals totals;
-    int cut_off = answer->number == 2 && answer->place == message.length, begun = 0;
+    int cut_off = is_cut_off(message, answer), begun = 0;
     if (cut_off)
         begun = add_up_so_far(message, &totals);
     else if (answer->number >= 6 && answer->number <= 9)

@@ -174,10 +174,11 @@ static void explain_text(FILE *to, struct text message, const struct spot *spot,
     const uint8_t *end = memchr(message.bytes + place, '<', message.length - place);
     struct text text = {message.bytes + place,
                         end ? (size_t)(end - message.bytes) - place : message.length - place};
-    size_t at = explain_flaw(to, rule_at(spot), text);
+    enum rule rule = rule_at(spot);
+    size_t at = explain_flaw(to, rule, text);
     fputc('\n', to);
     print_marked(to, "Text: ", text, at);
-    fprintf(to, "Its rule: %s.\n", RULE[rule_at(spot)]);
+    fprintf(to, "Its rule: %s.\n", RULE[rule]);
 }
 
 static void explain_refused(FILE *to, struct text message, uint64_t number, size_t place) {
@@ -214,10 +215,14 @@ static void explain_accepted(FILE *to, struct text message, const struct desk_ch
     explain_declared(to, message, rows);
 }
 
+int is_cut_off(struct text message, const struct desk_checked *answer) {
+    return answer->number == 2 && answer->place == message.length;
+}
+
 void explain_check(FILE *to, struct text message, const struct desk_checked *answer, const uint64_t *rows) {
     if (answer->number == 0)
         explain_accepted(to, message, answer, rows);
-    else if (answer->number == 2 && answer->place == message.length)
+    else if (is_cut_off(message, answer))
         explain_cut_off(to, message);
     else
         explain_refused(to, message, answer->number, (size_t)answer->place);

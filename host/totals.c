@@ -85,10 +85,18 @@ int add_up_so_far(struct text message, struct totals *totals) {
     return begun > ended;
 }
 
-const struct figures *figures_at(struct text message, const struct totals *totals, size_t place) {
-    size_t batch = count_tags((struct text){message.bytes, place}, "<PmtInf>");
-    if (batch == 0) return &totals->all;
-    return &totals->batch[batch <= DESK_BATCHES ? batch - 1 : DESK_BATCHES];
+void take_rows(struct totals *totals, size_t batches, const uint64_t *rows) {
+    totals->batches = batches;
+    for (size_t i = 0; i < batches; i++) {
+        const uint64_t *row = rows + i * DESK_ROW;
+        struct figures *of = &totals->batch[i];
+        of->count = row[1];
+        of->cents = row[2];
+        of->declares_count = row[3] == 1;
+        of->declared_count = row[4];
+        of->declares_sum = row[5] == 1;
+        of->declared_cents = row[6];
+    }
 }
 
 /* ─── printing ─── */
@@ -159,8 +167,9 @@ static void print_totals(FILE *to, const struct totals *totals, const uint64_t *
 
 void explain_totals(FILE *to, struct text message, uint64_t number, size_t place) {
     struct totals totals;
+    size_t batch = count_tags((struct text){message.bytes, place}, "<PmtInf>");
     add_up(message, &totals);
-    const struct figures *of = figures_at(message, &totals, place);
+    const struct figures *of = batch == 0 ? &totals.all : &totals.batch[batch - 1];
     fputs(number == 6 || number == 7 ? "The batch: " : "The message: ", to);
     if (number == 7 || number == 9)
         print_difference(to, of->declared_cents, of->cents, 1);
@@ -174,17 +183,9 @@ void explain_declared(FILE *to, struct text message, const uint64_t *rows) {
     struct totals totals;
     int absent = 0;
     add_up(message, &totals);
-    for (size_t i = 0; i < totals.batches; i++) {
-        const uint64_t *row = rows + i * DESK_ROW;
-        struct figures *of = &totals.batch[i];
-        of->count = row[1];
-        of->cents = row[2];
-        of->declares_count = row[3] == 1;
-        of->declared_count = row[4];
-        of->declares_sum = row[5] == 1;
-        of->declared_cents = row[6];
-        absent |= !of->declares_count || !of->declares_sum;
-    }
+    take_rows(&totals, totals.batches, rows);
+    for (size_t i = 0; i < totals.batches; i++)
+        absent |= !totals.batch[i].declares_count || !totals.batch[i].declares_sum;
     print_totals(to, &totals, rows);
     if (absent)
         fputs("Where a batch declares none, only the header's total was compared. A header that was made after\n"

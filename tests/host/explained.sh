@@ -6,6 +6,7 @@ sentence() { # FROM TO SENTENCE
 }
 sentence '>FEE 1<' '><' 'It is empty.'
 sentence 'FEE 1' '012345678901234567890123456789012345' 'It has 36 characters; at most 35 are allowed.'
+sentence 'FEE 1' '01234567890123456789012345678901234\xc3\xab' 'It has 37 bytes; at most 35 are allowed.'
 sentence 'FEE 1' '/A' 'It begins with a slash.'
 sentence 'FEE 1' 'A/' 'It ends with a slash.'
 sentence 'FEE 1' 'A//B' 'It has two slashes in a row.'

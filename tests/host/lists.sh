@@ -1,5 +1,19 @@
 # Day lists from CSV, and CSV from day lists.
 
+# what a file is that is no CSV, in two lines
+expect 'desk list examples/day.list' 1 'This looks like a day list.
+To mend: `desk write LIST --ceiling N` writes its message.'
+expect 'desk list examples/day.xml' 1 'This looks like a message.
+To mend: `desk check FILE` checks it.'
+expect "printf 'PK\\003\\004,,' | desk list -" 1 "This looks like a spreadsheet's own file, or a packed one.
+To mend: Save the sheet as CSV in UTF-8, and give that file."
+expect "printf '\\377\\376a\\0,\\0' | desk list -" 1 'The file is UTF-16.
+To mend: Save it as UTF-8 without a byte order mark.'
+# help and manual page name every field
+head -n 1 examples/day.csv | tr , '\n' > "$made/names"
+expect 'while IFS= read -r name; do desk --help | tr -s " \n" " " | grep -qF "$name" || echo "$name"; done < $made/names' 0 ''
+expect 'while IFS= read -r name; do tr -s " \n" " " < host/desk.1 | grep -qF "$name" || echo "$name"; done < $made/names' 0 ''
+rm "$made/names"
 # quiet is quiet of what is wrong, too
 expect 'desk list --quiet examples/day.csv | cmp - examples/day.list' 0 ''
 expect 'head -n 1 examples/day.csv | desk list --quiet -' 1 ''
