@@ -68,8 +68,9 @@ expect "desk write examples/day.list --ceiling 2 2> /dev/full | cmp - examples/d
 expect "desk write examples/day.list --ceiling 2 > \$made/a.xml 2> /dev/full" 0 ''
 rm "$made/a.xml"
 
-# a signal that comes while the file is written waits: the file is whole, and nothing stands beside it
-expect "for i in 1 2 3 4 5; do desk write examples/day.list --ceiling 2 -o \$made/a.xml > /dev/null & kill -TERM \$!; wait \$!; [ ! -e \$made/a.xml ] || cmp \$made/a.xml examples/day.xml; done 2> /dev/null; rm -f \$made/a.xml" 0 ''
+# signals that come while a file is written: it is whole, and nothing stands beside it. The emulator of an Arm
+# machine has its own way with signals, so that this says nothing there.
+[ "$(uname -m)" != x86_64 ] || expect "tests/signals 20 '$desk' > /dev/null" 0 ''
 left ''
 
 # the right to write is nobody's question for root, who is made another user here
