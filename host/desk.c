@@ -274,9 +274,10 @@ static int run_write(const struct request *request) {
     if (open_lines(&said) != DONE) return FAILED;
     if (request->option[EXPLAIN]) explain_written(said.to, request, list, &answer, &checked);
     if (close_lines(&said) != DONE) return FAILED;
-    if (answer.number == 0 && deliver(request, message) != DONE) return FAILED;
-    if (!request->option[QUIET]) print_written(request, &answer, &checked, &said);
+    int status = answer.number == 0 ? deliver(request, message) : DONE;
+    if (status == DONE && !request->option[QUIET]) print_written(request, &answer, &checked, &said);
     free(said.text);
+    if (status != DONE) return status;
     return answer.number == 0 ? finish(request) : refused(request);
 }
 
