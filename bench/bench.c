@@ -67,7 +67,7 @@ static void call(const struct job *job, int implementation) {
         memcpy(r->answer, answer, sizeof answer);
     } else {
         struct desk_written found = WRITE[implementation](input, input_length, job->ceiling, r->out, DESK_BYTES);
-        uint64_t answer[5] = {found.number, found.place, 0, 0, 0};
+        uint64_t answer[5] = {found.number, found.place, found.field, 0, 0};
         memcpy(r->answer, answer, sizeof answer);
     }
 }

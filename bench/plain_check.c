@@ -358,6 +358,30 @@ static const uint8_t *message(struct reading *r, const uint8_t *p) {
 
 static struct desk_checked refused(uint64_t number, uint64_t place) { return (struct desk_checked){number, place, 0, 0, 0}; }
 
+/* What the text at a place of a message of the form is, by the tag before it; of an Id by the tag after it. */
+__attribute__((cold, noinline)) static enum kind kind_of(const uint8_t *p, const uint8_t *end) {
+    static const struct { const char *tag; enum kind kind; } KINDS[] = {
+        {"<MsgId>", ID_KIND},       {"<PmtInfId>", ID_KIND},    {"<InstrId>", ID_KIND},       {"<EndToEndId>", ID_KIND},
+        {"<MndtId>", ID_KIND},      {"<Nm>", NAME_KIND},        {"<Ustrd>", REMITTANCE_KIND}, {"<NbOfTxs>", NUMBER_KIND},
+        {"<CtrlSum>", NUMBER_KIND}, {"EUR\">", NUMBER_KIND},    {"<CreDtTm>", DATE_KIND},     {"<ReqdColltnDt>", DATE_KIND},
+        {"<DtOfSgntr>", DATE_KIND}, {"<IBAN>", IBAN_KIND},      {"<BICFI>", SHAPE_KIND},
+    };
+    for (size_t i = 0; i < sizeof KINDS / sizeof *KINDS; i++) {
+        size_t n = strlen(KINDS[i].tag);
+        if (memcmp(p - n, KINDS[i].tag, n) == 0) return KINDS[i].kind;
+    }
+    if (memcmp(p - 4, "<Id>", 4) != 0) return CODE_KIND;
+    for (end += sizeof "</Id>" - 1; *end != '<'; end++) {}
+    return end[1] == '/' ? CODE_KIND : SHAPE_KIND;
+}
+
+/* The number of a bad text of such a message. */
+__attribute__((cold, noinline)) static uint64_t bad_text_number(const uint8_t *p) {
+    const uint8_t *end = p;
+    while (*end != '<') end++;
+    return refusal(kind_of(p, end), p, (size_t)(end - p));
+}
+
 static void fill_slip(uint64_t *into, const struct slip *slip) {
     into[0] = slip->batch;
     into[1] = slip->cents;
@@ -387,7 +411,7 @@ struct desk_checked desk_check(const uint8_t *bytes, size_t length, uint64_t *sl
     if (message(&r, bytes) == NULL) return refused(2, PLACE(r.fault));
     if (r.batch_65 != NULL) return refused(3, PLACE(r.batch_65));
     if (r.transaction_2001 != NULL) return refused(4, PLACE(r.transaction_2001));
-    if (r.bad_text != NULL) return refused(5, PLACE(r.bad_text));
+    if (r.bad_text != NULL) return refused(bad_text_number(r.bad_text), PLACE(r.bad_text));
     if (r.differs != NULL) return refused(r.differs_by, PLACE(r.differs));
     if (r.count.value != r.transactions) return refused(8, PLACE(r.count.at));
     if (r.sum.value != r.cents) return refused(9, PLACE(r.sum.at));

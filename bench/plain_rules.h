@@ -113,4 +113,27 @@ static inline int good_creditor_id(const uint8_t *s, size_t n) {
     return n >= 8 && n <= MOST_ID && all(s, 2, CAPITAL) && all(s + 2, 2, DIGIT) && all(s + 4, n - 4, CAPITAL | DIGIT);
 }
 
+/* The refusals of a text, one for each test. */
+enum { BAD_LENGTH = 51, BAD_LETTER, BAD_SLASH, BAD_NUMBER, BAD_DATE, BAD_CODE, BAD_SHAPE, BAD_CHECK_DIGITS };
+
+/* What a text is. A kind that has one test is the refusal of that test. */
+enum kind {
+    ID_KIND, NAME_KIND, REMITTANCE_KIND, IBAN_KIND,
+    NUMBER_KIND = BAD_NUMBER, DATE_KIND = BAD_DATE, CODE_KIND = BAD_CODE, SHAPE_KIND = BAD_SHAPE
+};
+
+/* The first tests of good_iban. */
+__attribute__((cold, noinline, unused)) static int is_iban_shaped(const uint8_t *s, size_t n) {
+    return n >= 5 && n <= 34 && all(s, 2, CAPITAL) && all(s + 2, 2, DIGIT) && all(s + 4, n - 4, CAPITAL | SMALL | DIGIT);
+}
+
+/* The refusal of a bad text: that of the first test that it fails. */
+__attribute__((cold, noinline, unused)) static uint64_t refusal(enum kind kind, const uint8_t *s, size_t n) {
+    if (kind == IBAN_KIND) return is_iban_shaped(s, n) ? BAD_CHECK_DIGITS : BAD_SHAPE;
+    if (kind >= NUMBER_KIND) return kind;
+    size_t most = kind == ID_KIND ? MOST_ID : kind == NAME_KIND ? MOST_NAME : MOST_REMITTANCE;
+    if (n < 1 || n > most) return BAD_LENGTH;
+    return all(s, n, LETTER) ? BAD_SLASH : BAD_LETTER;
+}
+
 #endif

@@ -37,8 +37,9 @@ static inline uint8_t decoded(unsigned high, unsigned low) { return (uint8_t)(hi
 
 struct reading {
     const uint8_t *at, *end;
-    int broken;  /* the line is no frame */
-    int bad;     /* a value of the line breaks its rule */
+    int broken;     /* the line is no frame */
+    uint64_t bad;   /* the number of the first value of the line that breaks its rule, 0 as long as there is none */
+    uint64_t field; /* of that value */
     uint8_t decoded[255];
 };
 
@@ -72,14 +73,29 @@ static inline struct text text(struct reading *r) {
     return text;
 }
 
-#define TEXT(into, ...)                            \
-    do {                                           \
-        into = text(r);                            \
-        const uint8_t *s = r->decoded;             \
-        size_t n = into.length;                    \
-        if (r->broken) return;                     \
-        if (!(__VA_ARGS__)) r->bad = 1;            \
+__attribute__((cold, noinline)) static void bad_value(struct reading *r, uint64_t number, uint64_t field) {
+    if (r->bad != 0) return;
+    r->bad = number;
+    r->field = field;
+}
+
+/* The values before the texts, one of which breaks its rule. */
+__attribute__((cold, noinline)) static void bad_bytes(struct reading *r, unsigned scheme, unsigned sequence) {
+    if (scheme > 1) bad_value(r, BAD_CODE, 1);
+    else if (sequence > 3) bad_value(r, BAD_CODE, 2);
+    else bad_value(r, BAD_NUMBER, 3);
+}
+
+#define TEXT(into, field, kind, ...)                                             \
+    do {                                                                         \
+        into = text(r);                                                          \
+        const uint8_t *s = r->decoded;                                           \
+        size_t n = into.length;                                                  \
+        if (r->broken) return;                                                   \
+        if (!(__VA_ARGS__)) bad_value(r, refusal(kind, s, n), field);            \
     } while (0)
+#define CREDITOR_TEXT(which, kind, ...) TEXT(creditor[which], 1 + (which), kind, __VA_ARGS__)
+#define COLLECTION_TEXT(which, kind, ...) TEXT(c->text[which], 4 + (which), kind, __VA_ARGS__)
 
 static inline void line_end(struct reading *r) {
     if (r->at == r->end || *r->at != '\n') r->broken = 1;
@@ -88,13 +104,13 @@ static inline void line_end(struct reading *r) {
 
 static void read_creditor(struct reading *r, struct text *creditor) {
     if (byte(r) != 1) r->broken = 1;
-    TEXT(creditor[MESSAGE_ID], good_id(s, n));
-    TEXT(creditor[CREATION], good_time(s, n));
-    TEXT(creditor[INITIATOR], good_letters(s, n, MOST_NAME));
-    TEXT(creditor[CREDITOR], good_letters(s, n, MOST_NAME));
-    TEXT(creditor[CREDITOR_IBAN], good_iban(s, n));
-    TEXT(creditor[CREDITOR_BIC], n == 0 || good_bic(s, n));
-    TEXT(creditor[CREDITOR_ID], good_creditor_id(s, n));
+    CREDITOR_TEXT(MESSAGE_ID, ID_KIND, good_id(s, n));
+    CREDITOR_TEXT(CREATION, DATE_KIND, good_time(s, n));
+    CREDITOR_TEXT(INITIATOR, NAME_KIND, good_letters(s, n, MOST_NAME));
+    CREDITOR_TEXT(CREDITOR, NAME_KIND, good_letters(s, n, MOST_NAME));
+    CREDITOR_TEXT(CREDITOR_IBAN, IBAN_KIND, good_iban(s, n));
+    CREDITOR_TEXT(CREDITOR_BIC, SHAPE_KIND, n == 0 || good_bic(s, n));
+    CREDITOR_TEXT(CREDITOR_ID, SHAPE_KIND, good_creditor_id(s, n));
     line_end(r);
 }
 
@@ -103,17 +119,17 @@ static void read_collection(struct reading *r, struct collection *c) {
     unsigned scheme = byte(r), sequence = byte(r);
     c->cents = 0;
     for (int i = 0; i < 5; i++) c->cents = 256 * c->cents + byte(r);
-    if (scheme > 1 || sequence > 3 || c->cents < 1 || c->cents > 99999999999) r->bad = 1;
-    TEXT(c->text[COLLECTION_DATE], good_date(s, n));
+    if (scheme > 1 || sequence > 3 || c->cents < 1 || c->cents > 99999999999) bad_bytes(r, scheme, sequence);
+    COLLECTION_TEXT(COLLECTION_DATE, DATE_KIND, good_date(s, n));
     uint64_t day = 10000 * number(r->decoded, 4) + 100 * number(r->decoded + 5, 2) + number(r->decoded + 8, 2);
     c->terms = 8 * (unsigned)day + 4 * scheme + sequence;
-    TEXT(c->text[END_TO_END_ID], good_id(s, n));
-    TEXT(c->text[MANDATE_ID], good_id(s, n));
-    TEXT(c->text[SIGNATURE], good_date(s, n));
-    TEXT(c->text[DEBTOR_BIC], n == 0 || good_bic(s, n));
-    TEXT(c->text[DEBTOR], good_letters(s, n, MOST_NAME));
-    TEXT(c->text[DEBTOR_IBAN], good_iban(s, n));
-    TEXT(c->text[REMITTANCE], n == 0 || good_letters(s, n, MOST_REMITTANCE));
+    COLLECTION_TEXT(END_TO_END_ID, ID_KIND, good_id(s, n));
+    COLLECTION_TEXT(MANDATE_ID, ID_KIND, good_id(s, n));
+    COLLECTION_TEXT(SIGNATURE, DATE_KIND, good_date(s, n));
+    COLLECTION_TEXT(DEBTOR_BIC, SHAPE_KIND, n == 0 || good_bic(s, n));
+    COLLECTION_TEXT(DEBTOR, NAME_KIND, good_letters(s, n, MOST_NAME));
+    COLLECTION_TEXT(DEBTOR_IBAN, IBAN_KIND, good_iban(s, n));
+    COLLECTION_TEXT(REMITTANCE, REMITTANCE_KIND, n == 0 || good_letters(s, n, MOST_REMITTANCE));
     line_end(r);
 }
 
@@ -329,7 +345,7 @@ static uint8_t *put_header(uint8_t *at, const struct text *t, uint64_t count, ui
 
 /* ---- The whole */
 
-static struct desk_written answer(uint64_t number, uint64_t place) { return (struct desk_written){number, place}; }
+static struct desk_written answer(uint64_t number, uint64_t place) { return (struct desk_written){number, place, 0}; }
 
 struct desk_written desk_write(const uint8_t *list, size_t list_len, uint64_t ceiling, uint8_t *out, size_t out_len) {
     struct text creditor[CREDITOR_TEXTS] = {{0}};
@@ -341,18 +357,19 @@ struct desk_written desk_write(const uint8_t *list, size_t list_len, uint64_t ce
     if (list_len > DESK_BYTES) return answer(21, 0);
     if (ceiling < 1 || ceiling > DESK_CEILING) return answer(22, 0);
     struct reading r = {.at = list, .end = list + list_len};
-    uint64_t lines = 0, bad_line = 0;
+    struct desk_written bad = answer(0, 0);
+    uint64_t lines = 0;
     while (r.at < r.end) {
         lines++;
         r.bad = 0;
         if (lines == 1) read_creditor(&r, creditor);
         else read_collection(&r, &c[lines - 2 < DESK_COLLECTIONS ? lines - 2 : DESK_COLLECTIONS]);
         if (r.broken) return answer(23, lines);
-        if (r.bad && bad_line == 0) bad_line = lines;
+        if (r.bad != 0 && bad.number == 0) bad = (struct desk_written){r.bad, lines, r.field};
     }
     if (lines < 2) return answer(24, lines);
     if (lines - 1 > DESK_COLLECTIONS) return answer(25, DESK_COLLECTIONS + 2);
-    if (bad_line != 0) return answer(26, bad_line);
+    if (bad.number != 0) return bad;
 
     unsigned n = (unsigned)(lines - 1), groups = group(c, n, count), most = (unsigned)ceiling, need = 0;
     for (unsigned g = 0; g < groups; g++) need += (count[g] + most - 1) / most;

@@ -101,18 +101,19 @@ static int fault_in(struct sheet *sheet, const struct cell *cell, size_t byte) {
     return 1;
 }
 
-/* A text that breaks its rule: which test it breaks, and at which byte, which is the answer; then what
-   follows. */
-static size_t fault_by(struct sheet *sheet, const struct cell *cell, enum rule rule, const char *more) {
+/* A value that fails the test of this number: how, and at which byte; then what follows. Cents are explained
+   by their value, every other value by its text. */
+static void fault_by(struct sheet *sheet, const struct cell *cell, uint64_t number, enum rule rule,
+                     const char *more) {
     char sentence[1024] = "";
     size_t byte = 0;
     FILE *into = fmemopen(sentence, sizeof sentence, "w");
     if (into) {
-        byte = explain_flaw(into, rule, cell->text);
+        struct text cents = {cell->value, CENTS_BYTES};
+        byte = explain_flaw(into, number, rule, rule == CENTS ? cents : cell->text);
         fclose(into);
     }
     if (fault_in(sheet, cell, byte)) fprintf(sheet->to, ": %s%s\n", sentence, more);
-    return byte;
 }
 
 static void print_more(const struct sheet *sheet) {
@@ -389,7 +390,7 @@ static int read_cents(struct text text, uint64_t *cents) {
 static struct text value_of_amount(struct sheet *sheet, struct cell *cell) {
     uint64_t cents;
     if (!read_cents(cell->text, &cents))
-        fault_by(sheet, cell, AMOUNT,
+        fault_by(sheet, cell, BAD_NUMBER, AMOUNT,
                  " Amounts are written as 3250.15: a point before the cents, nothing between thousands.");
     for (size_t i = CENTS_BYTES; i-- > 0; cents /= 256) cell->value[i] = (uint8_t)(cents % 256);
     return (struct text){cell->value, CENTS_BYTES};
@@ -419,15 +420,8 @@ static size_t put_cells(struct sheet *sheet, const struct kind *kind, struct cel
     return length + put_line(list + length, room - length, kind, values);
 }
 
-/* Whether a text has a letter outside the set at a byte: between two good letters it breaks the rule. */
-static int is_bad_letter(const struct kind *kind, size_t field, struct text text, size_t byte) {
-    enum rule rule = kind->field[field].rule;
-    if ((rule != IDENTIFIER && rule != NAME && rule != REMITTANCE) || byte >= text.length) return 0;
-    const uint8_t letters[] = {'A', text.bytes[byte], 'A'};
-    return breaks(kind, field, (struct text){letters, sizeof letters});
-}
-
-/* Refusal 26: reads the records once more, and explains each value that breaks its rule. */
+/* Refusals 51 to 58: reads the records once more, and explains each value that breaks its rule; the first is
+   the one that the answer is about. */
 static void explain_values(struct sheet *sheet) {
     struct cell cells[ALL_FIELDS];
     const struct kind *kind;
@@ -435,10 +429,10 @@ static void explain_values(struct sheet *sheet) {
     while ((kind = read_line(sheet, cells)))
         for (size_t i = 0; i < kind->fields; i++) {
             struct cell *cell = &cells[first_of(kind) + i];
-            enum rule rule = kind->field[i].rule;
-            if (!breaks(kind, i, value_of(sheet, cell))) continue;
-            letters |=
-                is_bad_letter(kind, i, cell->text, fault_by(sheet, cell, rule == CENTS ? AMOUNT : rule, ""));
+            uint64_t number = flaw_of(kind, i, value_of(sheet, cell));
+            if (number == 0) continue;
+            fault_by(sheet, cell, number, kind->field[i].rule, "");
+            letters |= number == BAD_LETTER;
         }
     print_more(sheet);
     if (letters) fputs("No letter is changed: write the text with letters of the set.\n", sheet->to);
@@ -447,7 +441,7 @@ static void explain_values(struct sheet *sheet) {
 /* The library refuses the list; `records` is where the records begin. */
 static void explain_refused(struct sheet *sheet, const struct desk_written *answer, size_t records) {
     FILE *to = sheet->to;
-    fprintf(to, "NO %" PRIu64 " %" PRIu64 "\n", answer->number, answer->place);
+    print_refusal(to, answer->number, answer->place, answer->field);
     if (answer->number == 21) {
         fprintf(to, "The day list of this CSV has more than %d bytes: split the CSV.\n", DESK_BYTES);
     } else if (answer->number == 24) {
@@ -458,7 +452,7 @@ static void explain_refused(struct sheet *sheet, const struct desk_written *answ
         print_place(to, sheet->csv, sheet->above);
         fprintf(to, "collection %d of %zu; a day list has at most %d: split the CSV.\n", DESK_COLLECTIONS + 1,
                 sheet->lines - 1, DESK_COLLECTIONS);
-    } else if (answer->number == 26) {
+    } else if (is_flaw(answer->number)) {
         sheet->at = records;
         sheet->lines = 0;
         explain_values(sheet);
@@ -472,7 +466,7 @@ size_t list_of_csv(FILE *to, struct text csv, const char *const given[CREDITOR_F
     struct sheet sheet = {.to = to, .csv = csv, .given = given};
     struct cell cells[ALL_FIELDS];
     const struct kind *kind;
-    struct desk_written answer = {21, 0};
+    struct desk_written answer = {21, 0, 0};
     size_t length = 0, records;
     uint8_t none[1];
     if (csv.length >= 3 && memcmp(csv.bytes, "\xEF\xBB\xBF", 3) == 0)
@@ -483,7 +477,7 @@ size_t list_of_csv(FILE *to, struct text csv, const char *const given[CREDITOR_F
     print_more(&sheet);
     if (sheet.faults > 0) return 0;
     if (length <= room) answer = desk_write(list, length, DESK_CEILING, none, 0);
-    if (answer.number < 21 || answer.number > 26) return length;
+    if (!is_of_lines(answer.number) && !is_flaw(answer.number)) return length;
     explain_refused(&sheet, &answer, records);
     return 0;
 }

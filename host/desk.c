@@ -22,16 +22,19 @@ static const char HELP_TEXT[] =
     "            B batch transactions cents declared-count declared-cents\n"
     "        the second line for each batch, with - where it declares none, and for one that is refused\n"
     "            NO number place\n"
-    "        1 to 5: the message is too long, not of the profile's form, has too many batches or\n"
-    "        transactions, or a text breaks its rule. 6 to 9: a declared count or sum differs from the\n"
-    "        exact one. Places count bytes from 0. Of several files each line begins with the file's name.\n"
+    "        1 to 4: the message is too long, not of the profile's form, has too many batches or\n"
+    "        transactions. 51 to 58: a text breaks its rule; the number says by what: 51 length, 52 letter,\n"
+    "        53 slash, 54 number, 55 date or time, 56 code, 57 shape (also NOTPROVIDED as a BIC), 58 check\n"
+    "        digits. 6 to 9: a declared count or sum differs from the exact one. Places count bytes from 0.\n"
+    "        Of several files each line begins with the file's name.\n"
     "\n"
     "write   writes the message of a day list, with at most N collections in a batch (1 to 500), to\n"
     "        standard output, or with -o to FILE, which is new or a regular file and is replaced as a\n"
     "        whole. The lines of the check of that message, or NO number place, go to standard output,\n"
-    "        and without -o to standard error. 21 to 26: the list is too long, a line is no frame, the\n"
-    "        list is incomplete or has too many collections, or a value breaks its rule. 27: more than 64\n"
-    "        batches are needed. Lines count from 1.\n"
+    "        and without -o to standard error. 21 to 25: the list is too long, a line is no frame, or the\n"
+    "        list is incomplete or has too many collections. 51 to 58, as above: a value breaks its rule,\n"
+    "        and what is printed is NO number line field. 27: more than 64 batches are needed. Lines and\n"
+    "        fields count from 1.\n"
     "\n"
     "list    makes a day list of a CSV whose first line has the names of the fields: message id, creation\n"
     "        time, initiating name, creditor name, creditor IBAN, creditor BIC, creditor identifier,\n"
@@ -93,10 +96,6 @@ static void print_lines(FILE *to, const char *name, const char *text) {
 
 /* ─── answers as lines ─── */
 
-static void print_refusal(FILE *to, uint64_t number, uint64_t place) {
-    fprintf(to, "NO %" PRIu64 " %" PRIu64 "\n", number, place);
-}
-
 static void print_declared(FILE *to, uint64_t mark, uint64_t value) {
     if (mark)
         fprintf(to, " %" PRIu64, value);
@@ -119,14 +118,14 @@ static void print_accepted(FILE *to, const char *name, const struct desk_checked
     }
 }
 
-/* Of a check, or of a write whose message was checked then. */
-static void print_answer(FILE *to, const char *name, uint64_t number, uint64_t place,
+/* Of a check, or of a write whose message was checked then; a refusal of a check has no field, 0. */
+static void print_answer(FILE *to, const char *name, uint64_t number, uint64_t place, uint64_t field,
                          const struct desk_checked *accepted) {
     if (number == 0) {
         print_accepted(to, name, accepted);
     } else {
         print_name(to, name);
-        print_refusal(to, number, place);
+        print_refusal(to, number, place, field);
     }
 }
 
@@ -170,7 +169,7 @@ static void print_checked(const struct request *request, const char *name, enum 
         print_json_checked(stdout, name, status, message, answer, rows, explanation_of(request, said));
     } else {
         const char *before = request->inputs_count > 1 ? name : 0;
-        print_answer(stdout, before, answer->number, answer->place, answer);
+        print_answer(stdout, before, answer->number, answer->place, 0, answer);
         print_lines(stdout, before, said->text);
     }
 }
@@ -253,7 +252,7 @@ static void print_written(const struct request *request, const struct desk_writt
     if (request->option[JSON]) {
         print_json_written(to, request->inputs[0], answer, checked, rows, explanation_of(request, said));
     } else {
-        print_answer(to, 0, answer->number, answer->place, checked);
+        print_answer(to, 0, answer->number, answer->place, answer->field, checked);
         print_lines(to, 0, said->text);
     }
 }
@@ -317,15 +316,15 @@ static int run_list(const struct request *request) {
     return finish(request);
 }
 
-/* Refusals 21 to 25 of a list are about its lines: then there are no values to show. */
+/* Where a list is refused for its lines there are no values to show. */
 static int run_show(const struct request *request) {
     struct text list;
     struct lines lines;
     uint8_t none[1];
     if (read_input(request->inputs[0], &list) != DONE) return FAILED;
     struct desk_written answer = desk_write(list.bytes, list.length, DESK_CEILING, none, 0);
-    if (answer.number >= 21 && answer.number <= 25) {
-        print_refusal(lines_of(request), answer.number, answer.place);
+    if (is_of_lines(answer.number)) {
+        print_refusal(lines_of(request), answer.number, answer.place, 0);
         explain_refused_list(lines_of(request), list, DESK_CEILING, &answer);
         return refused(request);
     }

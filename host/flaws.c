@@ -1,5 +1,5 @@
-/* Which test of its rule a text breaks, in a sentence. The library has refused the text; what is said here
-   only explains it. */
+/* How a text fails a test of its rule, in a sentence. The library has refused the text, and its number says
+   which test that is; what is said here only explains it. */
 #include <inttypes.h>
 #include <string.h>
 #include "host.h"
@@ -31,7 +31,24 @@ static size_t say_empty(FILE *to) {
     return 0;
 }
 
-/* ─── letters: a length, the letter set, slashes ─── */
+/* ─── plain texts: a length, the letter set, slashes ─── */
+
+static size_t length_flaw(FILE *to, enum rule rule, struct text text) {
+    size_t most = rule == IDENTIFIER ? 35 : rule == NAME ? 70 : 140;
+    if (text.length == 0) return say_empty(to);
+    say_length(to, text);
+    fprintf(to, "; at most %zu are allowed.", most);
+    return most;
+}
+
+static size_t letter_flaw(FILE *to, struct text text) {
+    size_t at = 0;
+    while (at < text.length && text.bytes[at] && strchr(LETTERS, text.bytes[at])) at++;
+    if (at == text.length) return at;
+    say_character(to, text, at);
+    fputs(", which is not in the letter set.", to);
+    return at;
+}
 
 static size_t find_slash(struct text text) {
     for (size_t i = 0; i < text.length; i++)
@@ -39,21 +56,8 @@ static size_t find_slash(struct text text) {
     return text.length;
 }
 
-static size_t letters_flaw(FILE *to, struct text text, size_t most, int slashes) {
-    if (text.length == 0) return say_empty(to);
-    if (text.length > most) {
-        say_length(to, text);
-        fprintf(to, "; at most %zu are allowed.", most);
-        return most;
-    }
-    for (size_t i = 0; i < text.length; i++)
-        if (!text.bytes[i] || !strchr(LETTERS, text.bytes[i])) {
-            say_character(to, text, i);
-            fputs(", which is not in the letter set.", to);
-            return i;
-        }
-    size_t at = slashes ? find_slash(text) : text.length;
-    if (at == text.length) return 0;
+static size_t slash_flaw(FILE *to, struct text text) {
+    size_t at = find_slash(text);
     fputs(at == 0                 ? "It begins with a slash."
           : at + 1 == text.length ? "It ends with a slash."
                                   : "It has two slashes in a row.",
@@ -85,8 +89,18 @@ static int has_decimals(FILE *to, struct text text, size_t start, size_t *at) {
     return 0;
 }
 
-static size_t number_flaw(FILE *to, struct text text, size_t most, int money) {
-    size_t whole = digits_from(text, 0), at;
+/* The cents of a list. */
+static size_t cents_flaw(FILE *to, struct text bytes) {
+    fputs("It is ", to);
+    print_euros(to, number_of(bytes));
+    fputs(number_of(bytes) == 0 ? "; the least is 0.01 EUR." : "; the most is 999999999.99 EUR.", to);
+    return 0;
+}
+
+static size_t number_flaw(FILE *to, enum rule rule, struct text text) {
+    size_t most = rule == AMOUNT ? 9 : 15, whole = digits_from(text, 0), at;
+    int money = rule != COUNT;
+    if (rule == CENTS) return cents_flaw(to, text);
     if (text.length == 0) return say_empty(to);
     if (whole < text.length && (!money || text.bytes[whole] != '.' || whole == 0)) {
         say_character(to, text, whole);
@@ -169,7 +183,9 @@ static int has_shape(FILE *to, struct text text, const struct shape *shape, size
         fprintf(to, "; %s has at most %zu.", shape->of, front + shape->most);
         return 0;
     }
-    if (text.length < front + shape->least)
+    if (text.length == 0)
+        fprintf(to, "It is empty; %s has at least %zu characters.", shape->of, front + shape->least);
+    else if (text.length < front + shape->least)
         fprintf(to, "It ends after %zu characters; %s has at least %zu.", text.length, shape->of,
                 front + shape->least);
     return text.length >= front + shape->least;
@@ -197,7 +213,7 @@ static size_t clock_flaw(FILE *to, struct text text) {
     return 0;
 }
 
-static size_t date_flaw(FILE *to, struct text text, int time) {
+static size_t date_flaw(FILE *to, enum rule rule, struct text text) {
     static const struct shape date = {"9999-99-99", 0, 0, 0, "a date, as 2026-11-10,"};
     static const struct shape date_time = {"9999-99-99T99:99:99", 0, 0, 0, "a time, as 2026-11-10T09:30:00,"};
     static const char *const months[] = {"January",   "February", "March",    "April",
@@ -205,7 +221,7 @@ static size_t date_flaw(FILE *to, struct text text, int time) {
                                          "September", "October",  "November", "December"};
     static const unsigned most[] = {31, 28, 31, 30, 31, 30, 31, 31, 30, 31, 30, 31};
     size_t at;
-    if (!has_shape(to, text, time ? &date_time : &date, &at)) return at;
+    if (!has_shape(to, text, rule == TIME ? &date_time : &date, &at)) return at;
     unsigned year = two_digits(text, 0) * 100 + two_digits(text, 2), month = two_digits(text, 5),
              day = two_digits(text, 8);
     if (year < 1900 || year > 2099) {
@@ -221,10 +237,26 @@ static size_t date_flaw(FILE *to, struct text text, int time) {
         fprintf(to, "The day is %02u; %s %u has the days 01 to %u.", day, months[month - 1], year, days);
         return 8;
     }
-    return time ? clock_flaw(to, text) : 0;
+    return rule == TIME ? clock_flaw(to, text) : 0;
 }
 
 /* ─── IBAN, BIC, creditor identifier ─── */
+
+static size_t shape_flaw(FILE *to, enum rule rule, struct text text) {
+    static const struct shape iban = {"AA99", 'X', 1, 30, "an IBAN"};
+    static const struct shape bic = {"NNNNAANN", 'N', 0, 3, "a BIC"};
+    static const struct shape creditor = {"AA99NNN", 'N', 1, 28, "a creditor identifier"};
+    size_t at;
+    if (!has_shape(to, text, rule == BIC ? &bic : rule == IBAN ? &iban : &creditor, &at)) return at;
+    if (text.length == 11) {
+        fputs("NOTPROVIDED is no BIC. A message says Othr, Id and NOTPROVIDED in the place of BICFI; a list "
+              "leaves the BIC empty.",
+              to);
+        return 0;
+    }
+    fprintf(to, "It has %zu characters; a BIC has 8 or 11.", text.length);
+    return 8;
+}
 
 /* What the number of an IBAN leaves on division by 97: its first four characters come last, and letters are
    read as 10 to 35. */
@@ -240,66 +272,34 @@ static unsigned remainder_of(struct text iban) {
     return n;
 }
 
-static size_t iban_flaw(FILE *to, struct text text) {
-    static const struct shape shape = {"AA99", 'X', 1, 30, "an IBAN"};
-    size_t at;
-    if (!has_shape(to, text, &shape, &at)) return at;
+static size_t check_digits_flaw(FILE *to, struct text text) {
     fprintf(to, "The check digits do not fit: the number leaves %u on division by 97, and must leave 1. ",
             remainder_of(text));
     fputs("A digit or letter is likely mistyped.", to);
     return 2;
 }
 
-static size_t bic_flaw(FILE *to, struct text text) {
-    static const struct shape shape = {"NNNNAANN", 'N', 0, 3, "a BIC"};
-    size_t at;
-    if (!has_shape(to, text, &shape, &at)) return at;
-    if (text.length == 11) {
-        fputs("NOTPROVIDED is no BIC. A message says Othr, Id and NOTPROVIDED in the place of BICFI; a list "
-              "leaves the BIC empty.",
-              to);
-        return 0;
-    }
-    fprintf(to, "It has %zu characters; a BIC has 8 or 11.", text.length);
-    return 8;
-}
+/* ─── codes ─── */
 
-static size_t creditor_flaw(FILE *to, struct text text) {
-    static const struct shape shape = {"AA99NNN", 'N', 1, 28, "a creditor identifier"};
-    size_t at;
-    has_shape(to, text, &shape, &at);
-    return at;
-}
-
-/* ─── codes and numbers of a list ─── */
-
-static size_t code_flaw(FILE *to, struct text text) {
-    if (text.length == 0) return say_empty(to);
-    fputs("It is no code that may stand there; capitals and small letters differ, and spaces count.", to);
+static size_t code_flaw(FILE *to, enum rule rule, struct text text) {
+    if (rule == SCHEME_BYTE || rule == SEQUENCE_BYTE)
+        fprintf(to, "It is %" PRIu64 ".", number_of(text));
+    else if (text.length == 0)
+        say_empty(to);
+    else
+        fputs("It is no code that may stand there; capitals and small letters differ, and spaces count.", to);
     return 0;
 }
 
-static size_t value_flaw(FILE *to, struct text text) {
-    fprintf(to, "It is %" PRIu64 ".", number_of(text));
-    return 0;
-}
-
-size_t explain_flaw(FILE *to, enum rule rule, struct text text) {
-    switch (rule) {
-    case IDENTIFIER: return letters_flaw(to, text, 35, 1);
-    case NAME: return letters_flaw(to, text, 70, 0);
-    case REMITTANCE: return letters_flaw(to, text, 140, 0);
-    case COUNT: return number_flaw(to, text, 15, 0);
-    case SUM: return number_flaw(to, text, 15, 1);
-    case AMOUNT: return number_flaw(to, text, 9, 1);
-    case DATE: return date_flaw(to, text, 0);
-    case TIME: return date_flaw(to, text, 1);
-    case IBAN: return iban_flaw(to, text);
-    case BIC: return bic_flaw(to, text);
-    case CREDITOR: return creditor_flaw(to, text);
-    case SCHEME_BYTE:
-    case SEQUENCE_BYTE:
-    case CENTS: return value_flaw(to, text);
-    default: return code_flaw(to, text);
+size_t explain_flaw(FILE *to, uint64_t number, enum rule rule, struct text text) {
+    switch (number) {
+    case BAD_LENGTH: return length_flaw(to, rule, text);
+    case BAD_LETTER: return letter_flaw(to, text);
+    case BAD_SLASH: return slash_flaw(to, text);
+    case BAD_NUMBER: return number_flaw(to, rule, text);
+    case BAD_DATE: return date_flaw(to, rule, text);
+    case BAD_CODE: return code_flaw(to, rule, text);
+    case BAD_SHAPE: return shape_flaw(to, rule, text);
+    default: return check_digits_flaw(to, text);
     }
 }

@@ -114,7 +114,7 @@ uint64_t number_of(struct text bytes) {
 
 /* ─── values ─── */
 
-int breaks(const struct kind *kind, size_t field, struct text value) {
+uint64_t flaw_of(const struct kind *kind, size_t field, struct text value) {
     static uint8_t list[8192]; /* room for two lines of texts of 255 bytes */
     uint8_t none[1];
     struct text values[FIELDS];
@@ -125,5 +125,6 @@ int breaks(const struct kind *kind, size_t field, struct text value) {
             values[i] = of == kind && i == field ? value : of->field[i].good;
         n += put_line(list + n, sizeof list - n, of, values);
     }
-    return desk_write(list, n, 1, none, 0).number == 26;
+    uint64_t number = desk_write(list, n, 1, none, 0).number;
+    return is_flaw(number) ? number : 0;
 }

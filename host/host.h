@@ -26,6 +26,11 @@ struct words {
 };
 const struct words *words_of(uint64_t number);
 
+/* The refusals of a text, or of a value of a list: one for each test of a rule. */
+enum { BAD_LENGTH = 51, BAD_LETTER, BAD_SLASH, BAD_NUMBER, BAD_DATE, BAD_CODE, BAD_SHAPE, BAD_CHECK_DIGITS };
+/* Whether a number is one of these. */
+int is_flaw(uint64_t number);
+
 /* The rules of texts, and of the numbers in a day list. */
 enum rule {
     HOLDER, IDENTIFIER, NAME, REMITTANCE, COUNT, SUM, AMOUNT, DATE, TIME, IBAN, BIC, CREDITOR, METHOD, BOOKING,
@@ -44,7 +49,7 @@ struct element {
 extern const struct element ELEMENTS[];
 extern const size_t ELEMENTS_COUNT;
 
-/* ─── print.c: bytes, euros, numbers with their nouns ─── */
+/* ─── print.c: bytes, refusals, euros, numbers with their nouns ─── */
 
 /* How many bytes the character at a place has; 0 where it is not UTF-8. */
 size_t character_length(struct text text, size_t at);
@@ -55,6 +60,8 @@ void print_text(FILE *to, struct text text);
 void print_word(FILE *to, const char *word);
 /* A line with the bytes around a place in quotes, after the lead, and a line with a mark below that place. */
 void print_marked(FILE *to, const char *lead, struct text text, size_t place);
+/* The line of a refusal, "NO 2 729", with the field where it has one, "NO 52 3 9". */
+void print_refusal(FILE *to, uint64_t number, uint64_t place, uint64_t field);
 /* Cents as euros, "3250.15 EUR". */
 void print_euros(FILE *to, uint64_t cents);
 /* A number with its noun, "1 batch", "2 batches". */
@@ -93,11 +100,11 @@ struct request {
 int read_request(int argc, char **argv, struct request *request);
 const char *option_name(size_t option);
 
-/* ─── flaws.c: which test of its rule a text breaks ─── */
+/* ─── flaws.c: how a text fails a test of its rule ─── */
 
-/* Of a text that breaks its rule: says in a sentence which test it breaks, and answers the byte at fault,
-   from 0; its length where it ends too soon. */
-size_t explain_flaw(FILE *to, enum rule rule, struct text text);
+/* Of a text that is refused with this number, 51 to 58: says in a sentence how it fails that test, and answers
+   the byte at fault, from 0; its length where it ends too soon. */
+size_t explain_flaw(FILE *to, uint64_t number, enum rule rule, struct text text);
 
 /* ─── totals.c: counts and sums, exact and declared ─── */
 
@@ -146,6 +153,8 @@ void explain_namespace(FILE *to, struct text message, size_t place);
 void explain_check(FILE *to, struct text message, const struct desk_checked *answer, const uint64_t *rows);
 /* Whether a message is refused because it ends too soon. */
 int is_cut_off(struct text message, const struct desk_checked *answer);
+/* Whether the place of a refusal with this number lies in the message. */
+int lies_in_message(uint64_t number);
 /* Line and column of a place, from 1, in bytes. */
 void line_and_column(struct text message, size_t place, size_t *line, size_t *column);
 
@@ -193,18 +202,21 @@ size_t read_frame(struct text bytes, const struct kind *kind, struct text *value
 size_t put_line(uint8_t *list, size_t room, const struct kind *kind, const struct text *values);
 /* The number that the bytes of a field spell. */
 uint64_t number_of(struct text bytes);
-/* Whether the writer refuses this value of a field, all others being good: the library is asked. */
-int breaks(const struct kind *kind, size_t field, struct text value);
+/* The number that the writer refuses this value of a field with, all others being good, 51 to 58; 0 where it
+   is good. The library is asked. */
+uint64_t flaw_of(const struct kind *kind, size_t field, struct text value);
 
 /* ─── list.c: the writer's refusal in words ─── */
 
+/* Whether a number is about the lines of a list, and not about their values: 21 to 25. */
+int is_of_lines(uint64_t number);
 void explain_refused_list(FILE *to, struct text list, uint64_t ceiling, const struct desk_written *answer);
 
 /* ─── csv.c: day lists from and to CSV ─── */
 
 /* Makes the day list of a CSV, and answers its length. `given` are the creditor's fields that the command
-   line gives, null where it gives none. Where the CSV has faults, or the writer refuses the list with 21 to
-   26, they are said to `to`, and the answer is 0. */
+   line gives, null where it gives none. Where the CSV has faults, or the writer refuses the list for its
+   lines or values, they are said to `to`, and the answer is 0. */
 size_t list_of_csv(FILE *to, struct text csv, const char *const given[CREDITOR_FIELDS], uint8_t *list,
                    size_t room);
 /* Prints a list as a CSV. Every line is a frame of its kind. */

@@ -97,6 +97,14 @@ static void put_refused(FILE *to, uint64_t number, uint64_t place) {
     put_text(to, "means", words_of(number)->means);
 }
 
+/* The field of a line of a list. */
+static void put_field(FILE *to, const struct desk_written *answer) {
+    const struct kind *kind = kind_of(answer->place);
+    put_number(to, "field", answer->field);
+    if (answer->field >= 1 && answer->field <= kind->fields)
+        put_text(to, "field_name", kind->field[answer->field - 1].name);
+}
+
 /* The lines of the explanation. */
 static void put_said(FILE *to, const char *said) {
     if (!said) return;
@@ -119,7 +127,7 @@ void print_json_checked(FILE *to, const char *name, enum status status, struct t
         put_rows(to, answer, rows);
     } else {
         put_refused(to, answer->number, answer->place);
-        if (answer->number >= 2 && answer->number <= 9) {
+        if (lies_in_message(answer->number)) {
             size_t line, column;
             line_and_column(message, (size_t)answer->place, &line, &column);
             put_number(to, "line", line);
@@ -139,6 +147,7 @@ void print_json_written(FILE *to, const char *name, const struct desk_written *a
         put_rows(to, checked, rows);
     } else {
         put_refused(to, answer->number, answer->place);
+        if (is_flaw(answer->number)) put_field(to, answer);
     }
     put_said(to, said);
     fputs("}\n", to);

@@ -55,19 +55,26 @@ static void explain_frame(FILE *to, const struct line *line, uint64_t n) {
 
 /* ─── values ─── */
 
-/* Refusal 26: each value of the line that breaks its rule. */
-static void explain_values(FILE *to, const struct line *line, uint64_t n) {
-    const struct kind *kind = kind_of(n);
+/* How a value fails this test, its rule, and what to mend; its field was named before. */
+static void explain_value(FILE *to, const struct field *field, uint64_t number, struct text value) {
+    size_t at = explain_flaw(to, number, field->rule, value);
+    fputc('\n', to);
+    if (field->bytes == 0) print_marked(to, "  Text: ", value, at);
+    fprintf(to, "  Its rule: %s%s.\n", field->may_be_empty ? "empty, or " : "", RULE[field->rule]);
+    fprintf(to, "To mend: %s\n", words_of(number)->mend);
+}
+
+/* Refusals 51 to 58: the value that the answer is about, and after it the others of the line that break their
+   rules. */
+static void explain_values(FILE *to, const struct line *line, const struct desk_written *answer) {
+    const struct kind *kind = kind_of(answer->place);
     struct text values[FIELDS];
-    size_t rest, whole = read_frame(bytes_of(line), kind, values, &rest);
-    for (size_t i = 0; i < whole; i++) {
-        const struct field *field = &kind->field[i];
-        if (!breaks(kind, i, values[i])) continue;
-        fprintf(to, "Field %zu, %s: ", i + 1, field->name);
-        size_t at = explain_flaw(to, field->rule, values[i]);
-        fputc('\n', to);
-        if (field->bytes == 0) print_marked(to, "  Text: ", values[i], at);
-        fprintf(to, "  Its rule: %s%s.\n", field->may_be_empty ? "empty, or " : "", RULE[field->rule]);
+    size_t rest, whole = read_frame(bytes_of(line), kind, values, &rest), first = (size_t)answer->field - 1;
+    for (size_t i = first; i < whole; i++) {
+        uint64_t number = i == first ? answer->number : flaw_of(kind, i, values[i]);
+        if (number == 0) continue;
+        fprintf(to, "%s %zu, %s: ", i == first ? "Field" : "Also field", i + 1, kind->field[i].name);
+        explain_value(to, &kind->field[i], number, values[i]);
     }
 }
 
@@ -99,15 +106,17 @@ static void explain_batches(FILE *to, struct text list, uint64_t ceiling, uint64
 
 /* ─── the refusals ─── */
 
-static void explain_line(FILE *to, struct text list, uint64_t number, uint64_t n) {
-    struct line line = line_at(list, n);
-    fprintf(to, "Line %" PRIu64 ": ", n);
+int is_of_lines(uint64_t number) { return number >= 21 && number <= 25; }
+
+static void explain_line(FILE *to, struct text list, const struct desk_written *answer) {
+    struct line line = line_at(list, answer->place);
+    fprintf(to, "Line %" PRIu64 ": ", answer->place);
     print_text(to, line.digits);
     fputs(".\n", to);
-    if (number == 23)
-        explain_frame(to, &line, n);
+    if (answer->number == 23)
+        explain_frame(to, &line, answer->place);
     else
-        explain_values(to, &line, n);
+        explain_values(to, &line, answer);
 }
 
 void explain_refused_list(FILE *to, struct text list, uint64_t ceiling, const struct desk_written *answer) {
@@ -115,7 +124,7 @@ void explain_refused_list(FILE *to, struct text list, uint64_t ceiling, const st
     const struct hint *hint = answer->number == 23 && answer->place == 1 ? hint_of_list(list) : 0;
     fprintf(to, "%s\n", words->means);
     if (hint) fprintf(to, "%s\n", hint->is);
-    if (answer->number == 23 || answer->number == 26) explain_line(to, list, answer->number, answer->place);
+    if (answer->number == 23 || is_flaw(answer->number)) explain_line(to, list, answer);
     if (answer->number == 24) {
         fputs("The list has ", to);
         print_many(to, answer->place, "line", "lines");
@@ -127,5 +136,5 @@ void explain_refused_list(FILE *to, struct text list, uint64_t ceiling, const st
         fprintf(to, "The list has %zu collections.\n", lines - 1);
     }
     if (answer->number == 27) explain_batches(to, list, ceiling, answer->place);
-    fprintf(to, "To mend: %s\n", hint ? hint->mend : words->mend);
+    if (!is_flaw(answer->number)) fprintf(to, "To mend: %s\n", hint ? hint->mend : words->mend);
 }

@@ -141,6 +141,8 @@ static void print_allowed(FILE *to, struct text message, const struct spot *spot
 
 /* ─── the refusals ─── */
 
+int lies_in_message(uint64_t number) { return (number >= 2 && number <= 9) || is_flaw(number); }
+
 static struct text without_white_end(struct text text) {
     while (text.length > 0 && text.bytes[text.length - 1] <= ' ') text.length--;
     return text;
@@ -170,12 +172,13 @@ static void explain_form(FILE *to, struct text message, const struct spot *spot,
     print_allowed(to, message, spot);
 }
 
-static void explain_text(FILE *to, struct text message, const struct spot *spot, size_t place) {
+static void explain_text(FILE *to, struct text message, const struct spot *spot, uint64_t number,
+                         size_t place) {
     const uint8_t *end = memchr(message.bytes + place, '<', message.length - place);
     struct text text = {message.bytes + place,
                         end ? (size_t)(end - message.bytes) - place : message.length - place};
     enum rule rule = rule_at(spot);
-    size_t at = explain_flaw(to, rule, text);
+    size_t at = explain_flaw(to, number, rule, text);
     fputc('\n', to);
     print_marked(to, "Text: ", text, at);
     fprintf(to, "Its rule: %s.\n", RULE[rule]);
@@ -187,7 +190,7 @@ static void explain_refused(FILE *to, struct text message, uint64_t number, size
     struct spot spot;
     fprintf(to, "%s\n", words->means);
     if (hint) fprintf(to, "%s\n", hint->is);
-    if (number >= 2 && number <= 9) {
+    if (lies_in_message(number)) {
         find(message, place, &spot);
         print_place(to, message, place);
         print_element(to, message, &spot, place);
@@ -196,7 +199,7 @@ static void explain_refused(FILE *to, struct text message, uint64_t number, size
     if (number == 3) fprintf(to, "The message has %zu batches.\n", count_tags(message, "<PmtInf>"));
     if (number == 4)
         fprintf(to, "The message has %zu transactions.\n", count_tags(message, "<DrctDbtTxInf>"));
-    if (number == 5) explain_text(to, message, &spot, place);
+    if (is_flaw(number)) explain_text(to, message, &spot, number, place);
     if (number >= 6 && number <= 9) explain_totals(to, message, number, place);
     fprintf(to, "To mend: %s\n", hint ? hint->mend : words->mend);
 }

@@ -1,4 +1,4 @@
-/* Printing of bytes, euros and numbers with their nouns. */
+/* Printing of bytes, refusals, euros and numbers with their nouns. */
 #include <inttypes.h>
 #include <string.h>
 #include "host.h"
@@ -78,6 +78,12 @@ void print_marked(FILE *to, const char *lead, struct text text, size_t place) {
 }
 
 /* ─── numbers ─── */
+
+void print_refusal(FILE *to, uint64_t number, uint64_t place, uint64_t field) {
+    fprintf(to, "NO %" PRIu64 " %" PRIu64, number, place);
+    if (field > 0) fprintf(to, " %" PRIu64, field);
+    fputc('\n', to);
+}
 
 void print_euros(FILE *to, uint64_t cents) {
     fprintf(to, "%" PRIu64 ".%02" PRIu64 " EUR", cents / 100, cents % 100);

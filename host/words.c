@@ -10,7 +10,21 @@ static const struct words WORDS[] = {
      "Correct what stands at the place, or add what is missing there. docs/FORMATS.md has the whole tree."},
     {3, "The message has more than 64 batches.", "Split the run into several messages."},
     {4, "The message has more than 2,000 transactions.", "Split the run into several messages."},
-    {5, "A text breaks its rule.", "Correct that text. docs/FORMATS.md has every rule with examples."},
+    {51, "A plain text (identifier, name, remittance) is empty or too long.", "Fill it in, or shorten it."},
+    {52, "A text has a letter that is not in the letter set.",
+     "Write it with letters of the set, which has none with an accent, no & and no _."},
+    {53, "An identifier begins or ends with a slash, or has two in a row.", "Take that slash out."},
+    {54, "A number has not the shape of its rule, or is out of its range.",
+     "Write the right number, in the shape and the range of its rule."},
+    {55, "A date or a time is no real one of the years 1900 to 2099, or is not written as its rule says.",
+     "Write a real day of the years 1900 to 2099 as 2026-11-10, a time as 2026-11-10T09:30:00."},
+    {56, "A code is none of those that may stand there.", "Write one of those that its rule names."},
+    {57, "An IBAN, a BIC or a creditor identifier is not as its rule says, or a BIC is NOTPROVIDED.",
+     "Write it as its rule says, without spaces. Take it from the document it was copied from; do not guess "
+     "it. A BIC that is not known is left out."},
+    {58, "The check digits of an IBAN do not fit.",
+     "Compare it with the document it was copied from, character by character. Never change the check digits "
+     "to make them fit."},
     {6, "The count that a batch declares differs from the number of its transactions.",
      FIND_LOST("transactions that were lost or are too many", "count")},
     {7, "The sum that a batch declares differs from the exact sum of its amounts.",
@@ -28,7 +42,6 @@ static const struct words WORDS[] = {
     {24, "The list has no creditor line, or no collection.",
      "Complete the list: the creditor on line 1, a collection on each further line."},
     {25, "The list has more than 1,000 collections.", "Split the list."},
-    {26, "A value breaks its rule.", "Correct that value. docs/FORMATS.md has every rule with examples."},
     {27,
      "More than 64 batches are needed: no message carries these collections with no batch above the ceiling.",
      "Raise the ceiling, or split the list."},
@@ -42,6 +55,8 @@ const struct words *words_of(uint64_t number) {
         if (WORDS[i].number == number) return &WORDS[i];
     return &unknown;
 }
+
+int is_flaw(uint64_t number) { return number >= BAD_LENGTH && number <= BAD_CHECK_DIGITS; }
 
 #define LETTERS "of a-z A-Z 0-9 / - ? : ( ) . , ' + and space"
 

@@ -16,7 +16,7 @@ extern "C" {
 #endif
 
 /* Of this header, of the library and of the command; CHANGELOG.md says what each version brought. */
-#define DESK_VERSION "1.0.0"
+#define DESK_VERSION "2.0.0"
 
 /* The limits of the profile. */
 #define DESK_BYTES 1048576      /* of a message, of a day list */
@@ -49,8 +49,17 @@ extern "C" {
         Place: the `<` of the 65th PmtInf. Mend: split the run into several messages.
      4  There are more than 2,000 transactions.
         Place: the `<` of the 2,001st DrctDbtTxInf. Mend: split the run into several messages.
-     5  A text breaks its rule, as a letter outside the set, a date that is no day, an IBAN with wrong check digits.
+    51 to 58, one stage: a text breaks its rule. The number says which of its tests it fails first. Plain texts: length, letters,
+        slashes; an IBAN: shape, then check digits; every other text has one test.
         Place: the start of the first such text. Mend: that text.
+    51  A plain text (identifier, name, remittance) is empty, or has more bytes than its rule allows.
+    52  It has a byte that is none of the letter set.
+    53  An identifier begins or ends with a slash, or has two in a row.
+    54  It is no number of the shape and range of its rule.
+    55  It is no real day of the years 1900 to 2099 written as 2026-11-10, or no such day and time.
+    56  It is none of the codes that may stand there.
+    57  It has not the shape of an IBAN, a BIC or a creditor identifier, or is NOTPROVIDED in the place of a BIC.
+    58  It has the shape of an IBAN, and its check digits do not fit.
      6  The count that a batch declares differs from the number of its transactions.
         Place: the start of that NbOfTxs. Mend: find the transactions that were lost or are too many; correct the count only where
         it was declared wrong.
@@ -97,6 +106,9 @@ struct desk_checked desk_check(const uint8_t *message, size_t message_len, uint6
 
    number 0: written. place is the length of the message, which stands at the start of out; every byte beyond it stays.
    Other numbers: refused. place is as said below, and no byte of out is changed.
+   field is 0 except for 51 to 58. Fields count from 1. A creditor line: 1 message id, 2 creation time, 3 initiating name,
+   4 creditor name, 5 IBAN, 6 BIC, 7 creditor identifier. A collection: 1 scheme, 2 sequence, 3 cents, 4 collection date,
+   5 end-to-end id, 6 mandate id, 7 signature date, 8 BIC, 9 debtor name, 10 IBAN, 11 remittance.
    Lines of a list count from 1. The stages run in this order, each over the whole list; the first that finds a fault answers.
 
     21  The list is longer than 1,048,576 bytes.
@@ -109,8 +121,9 @@ struct desk_checked desk_check(const uint8_t *message, size_t message_len, uint6
         Place: the lines present, 0 or 1. Mend: complete the list.
     25  There are more than 1,000 collections.
         Place: 1,002, the line of the first that is too many. Mend: split the list.
-    26  A value breaks its rule: a scheme above 1, a sequence above 3, cents outside 1 to 99,999,999,999, or a text.
-        Place: the first such line. Mend: that value.
+    51 to 58, one stage: a value breaks its rule. The numbers mean what they mean in the check; a scheme above 1 and a sequence
+        above 3 are 56, cents outside 1 to 99,999,999,999 are 54. A BIC and a remittance of length 0 are good: there is none.
+        Place: the first such line. Field: the first such field of that line. Mend: that value.
     27  More than 64 batches are needed: no message carries these collections with no batch above the ceiling.
         Place: the batches needed. Mend: raise the ceiling, or split the list.
     28  The output is too short.
@@ -118,7 +131,7 @@ struct desk_checked desk_check(const uint8_t *message, size_t message_len, uint6
 
    The written message carries exactly the collections of the list, is accepted by desk_check, and has as few batches as any
    accepted message that carries them with no batch above the ceiling. */
-struct desk_written { uint64_t number, place; };
+struct desk_written { uint64_t number, place, field; };
 struct desk_written desk_write(const uint8_t *list, size_t list_len, uint64_t ceiling, uint8_t *out, size_t out_len);
 
 #ifdef __cplusplus

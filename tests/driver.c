@@ -6,7 +6,7 @@
    comparison must see it.
 
    Prints the figures. The input of the first disagreement is kept in FILE. Exit status 0: no disagreement, no spoiled result unseen,
-   every number reached; 1: otherwise; 2: the calls cannot be read. */
+   every number reached by its operation; 1: otherwise; 2: the calls cannot be read. */
 #include "desk.h"
 #include <stdint.h>
 #include <stdio.h>
@@ -107,17 +107,41 @@ static long first_difference(const struct lent *lent) {
 
 /* ---- Results */
 
-enum { NUMBERS = 29 };
-static unsigned long calls, checks, writes, disagreements, unseen, reached[NUMBERS], accepted, written;
+enum { MOST_ANSWERS = 5, MOST_BUFFERS = 3, NUMBERS = 59 };
+static unsigned long calls, disagreements, unseen;
 
-static const char *const ANSWERS[] = {"number", "place", "batches", "transactions", "cents"};
+/* An operation: the names of its inputs, of its success and of what it answers, its refusals in the order of their stages up to a 0;
+   its calls, how often each number was answered, and its longest input. */
+struct operation {
+    const char *function, *inputs, *success;
+    const char *answers[MOST_ANSWERS + 1];
+    uint8_t refusals[NUMBERS];
+    unsigned long calls, reached[NUMBERS];
+    size_t longest;
+};
+
+static struct operation checks = {
+    .function = "desk_check",
+    .inputs = "messages",
+    .success = "accepted",
+    .answers = {"number", "place", "batches", "transactions", "cents"},
+    .refusals = {1, 2, 3, 4, 51, 52, 53, 54, 55, 56, 57, 58, 6, 7, 8, 9, 10, 11},
+};
+
+static struct operation writes = {
+    .function = "desk_write",
+    .inputs = "lists",
+    .success = "written",
+    .answers = {"number", "place", "field"},
+    .refusals = {21, 22, 23, 24, 25, 51, 52, 53, 54, 55, 56, 57, 58, 27, 28},
+};
 
 /* The result of a call: its answer beside the one that is due, and its buffers. */
 struct result {
-    const char *function;
+    struct operation *operation;
     size_t answers, buffers;
-    uint64_t answer[5], due[5];
-    struct lent *buffer[3];
+    uint64_t answer[MOST_ANSWERS], due[MOST_ANSWERS];
+    struct lent *buffer[MOST_BUFFERS];
 };
 
 static int right(const struct result *result) {
@@ -129,12 +153,13 @@ static int right(const struct result *result) {
 }
 
 static void show(const struct result *result) {
-    printf("call %lu, %s:", calls, result->function);
+    printf("call %lu, %s:", calls, result->operation->function);
     for (size_t i = 0; i < result->buffers; i++)
         printf(" %s of %lu bytes,", result->buffer[i]->name, (unsigned long)result->buffer[i]->length);
     for (size_t i = 0; i < result->answers; i++)
         if (result->answer[i] != result->due[i])
-            printf(" %s %llu and not %llu,", ANSWERS[i], (unsigned long long)result->answer[i], (unsigned long long)result->due[i]);
+            printf(" %s %llu and not %llu,", result->operation->answers[i], (unsigned long long)result->answer[i],
+                   (unsigned long long)result->due[i]);
     for (size_t i = 0; i < result->buffers; i++)
         if (!as_due(result->buffer[i])) printf(" %s differs at byte %ld,", result->buffer[i]->name, first_difference(result->buffer[i]));
     printf(" due number %llu\n", (unsigned long long)result->due[0]);
@@ -157,7 +182,6 @@ static void spoil(struct result *result) {
 
 /* ---- Calls */
 
-static size_t longest_message, longest_list;
 static const char *keep;
 static struct bytes input;
 static struct lent lent_input = {.name = "input"}, slips = {.name = "slips"}, rows = {.name = "rows"}, out = {.name = "output"};
@@ -178,9 +202,16 @@ static void keep_input(void) {
     else printf("its input cannot be kept in %s\n", keep);
 }
 
+static void read_answer(struct result *result) {
+    while (result->operation->answers[result->answers] != NULL) result->due[result->answers++] = read_number();
+}
+
 static void judge(struct result *result) {
+    struct operation *operation = result->operation;
     calls++;
-    if (result->answer[0] < NUMBERS) reached[result->answer[0]]++;
+    operation->calls++;
+    if (result->answer[0] < NUMBERS) operation->reached[result->answer[0]]++;
+    if (input.length > operation->longest) operation->longest = input.length;
     if (!right(result)) {
         disagreements++;
         if (disagreements <= MOST_SHOWN) show(result);
@@ -193,9 +224,9 @@ static void judge(struct result *result) {
 
 static void call_check(void) {
     static struct bytes due_slips, due_rows;
-    struct result result = {.function = "desk_check", .answers = 5, .buffers = 3, .buffer = {&lent_input, &slips, &rows}};
+    struct result result = {.operation = &checks, .buffers = 3, .buffer = {&lent_input, &slips, &rows}};
     size_t slips_length = read_length(sizeof(uint64_t)), rows_length = read_length(sizeof(uint64_t));
-    for (size_t i = 0; i < 5; i++) result.due[i] = read_number();
+    read_answer(&result);
     read_row(&due_slips, sizeof(uint64_t));
     read_row(&due_rows, sizeof(uint64_t));
     if (trouble != NULL) return;
@@ -204,52 +235,46 @@ static void call_check(void) {
     uint64_t *rows_at = (uint64_t *)(void *)lend(&rows, rows_length, &due_rows, MARGIN);
     struct desk_checked found =
         desk_check(message, input.length, slips_at, slips_length / sizeof(uint64_t), rows_at, rows_length / sizeof(uint64_t));
-    uint64_t answer[5] = {found.number, found.place, found.batches, found.transactions, found.cents};
+    uint64_t answer[] = {found.number, found.place, found.batches, found.transactions, found.cents};
     memcpy(result.answer, answer, sizeof answer);
-    checks++;
-    accepted += found.number == 0;
-    if (input.length > longest_message) longest_message = input.length;
     judge(&result);
 }
 
 static void call_write(void) {
     static struct bytes due_out;
-    struct result result = {.function = "desk_write", .answers = 2, .buffers = 2, .buffer = {&lent_input, &out}};
+    struct result result = {.operation = &writes, .buffers = 2, .buffer = {&lent_input, &out}};
     uint64_t ceiling = read_number();
     size_t out_length = read_length(1);
-    for (size_t i = 0; i < 2; i++) result.due[i] = read_number();
+    read_answer(&result);
     read_row(&due_out, 1);
     if (trouble != NULL) return;
     const uint8_t *list = lend_input();
     uint8_t *out_at = lend(&out, out_length, &due_out, any_start());
     struct desk_written found = desk_write(list, input.length, ceiling, out_at, out_length);
-    result.answer[0] = found.number;
-    result.answer[1] = found.place;
-    writes++;
-    written += found.number == 0;
-    if (input.length > longest_list) longest_list = input.length;
+    uint64_t answer[] = {found.number, found.place, found.field};
+    memcpy(result.answer, answer, sizeof answer);
     judge(&result);
 }
 
 /* ---- Figures */
 
-/* Prints how often the numbers of a job were reached; whether all were. */
-static int print_reached(const char *good, unsigned long often, unsigned first, unsigned last) {
-    int all = often > 0;
-    printf("%s %lu", good, often);
-    for (unsigned number = first; number <= last; number++) {
-        printf(", %u: %lu", number, reached[number]);
-        all &= reached[number] > 0;
+/* Prints how often an operation answered each of its numbers; whether it answered all. */
+static int print_reached(const struct operation *operation) {
+    int all = operation->reached[0] > 0;
+    printf("%s: %lu calls, %s of up to %lu bytes; ", operation->function, operation->calls, operation->inputs,
+           (unsigned long)operation->longest);
+    printf("%s %lu", operation->success, operation->reached[0]);
+    for (const uint8_t *number = operation->refusals; *number != 0; number++) {
+        printf(", %u: %lu", (unsigned)*number, operation->reached[*number]);
+        all &= operation->reached[*number] > 0;
     }
     printf("%s\n", all ? "" : " (not every number was reached)");
     return all;
 }
 
 static int print_figures(void) {
-    printf("desk_check: %lu calls, messages of up to %lu bytes; ", checks, (unsigned long)longest_message);
-    int all = print_reached("accepted", accepted, 1, 11);
-    printf("desk_write: %lu calls, lists of up to %lu bytes; ", writes, (unsigned long)longest_list);
-    all &= print_reached("written", written, 21, 28);
+    int all = print_reached(&checks);
+    all &= print_reached(&writes);
     printf("%lu calls, %lu disagreements; %lu results spoiled on purpose, %lu of them unseen\n", calls, disagreements,
            calls - disagreements, unseen);
     return all;

@@ -5,9 +5,12 @@
 //! - `I`, bytes: the input of the calls that follow;
 //! - `C`, the lengths of slip and batch table, the answer (number, place, batches, transactions,
 //!   cents), the numbers that go into the slip table, those that go into the batch table: a check;
-//! - `W`, the ceiling, the length of the output, the answer (number, place), the bytes that go into
-//!   the output: a write;
+//! - `W`, the ceiling, the length of the output, the answer (number, place, field), the bytes that
+//!   go into the output: a write;
 //! - `E`: the end.
+//!
+//! The stream begins with the cases of the table of refusals 51 to 58, one call for each, the same
+//! whatever the seed; then come the calls of the seed.
 
 use crate::answer::Refusal;
 use crate::check::{Accepted, Checker, Tables};
@@ -16,6 +19,7 @@ use crate::list_cases::list;
 use crate::message_cases::message;
 use crate::profile::{CEILING_LIMIT, MESSAGE_LIMIT, PROGRAM_LIMIT};
 use crate::random::Random;
+use crate::text_cases::{self, TextCase};
 use crate::writer::write;
 use std::io;
 
@@ -26,14 +30,29 @@ const FAR_OUTPUT: usize = MESSAGE_LIMIT + 100_000;
 /// An input that is not refused is called with so many lengths; one at the limits with all.
 const LENGTHS: usize = 3;
 
-/// Writes so many calls of a seed.
+/// Tables and an output that are long enough for every case of the table of refusals 51 to 58.
+const TEXT_TABLES: Tables = Tables {
+    slips: 120,
+    batches: 64,
+};
+const TEXT_OUTPUT: usize = 4_000;
+
+/// Writes the calls of the table and so many of a seed.
 pub fn calls(seed: u64, count: u64, out: &mut dyn io::Write) -> io::Result<()> {
+    let (messages, lists) = (text_cases::messages(), text_cases::lists());
+    let fixed = messages.len() + lists.len();
     let mut calls = Calls {
         checker: Checker::new(),
         random: Random::new(!seed, u64::MAX),
-        left: count,
+        left: count.saturating_add(fixed as u64),
         out,
     };
+    for case in &messages {
+        calls.check_of_the_table(case)?;
+    }
+    for case in &lists {
+        calls.write_of_the_table(case)?;
+    }
     let mut case = 0;
     while calls.left > 0 {
         calls.of_a_case(seed, case)?;
@@ -50,6 +69,25 @@ struct Calls<'a> {
 }
 
 impl Calls<'_> {
+    /// The check of a message of the table.
+    fn check_of_the_table(&mut self, case: &TextCase) -> io::Result<()> {
+        let found = self.checker.check(&case.input, TEXT_TABLES);
+        let due = as_the_table_says(case, found)?;
+        self.input(&case.input)?;
+        match due {
+            Ok(accepted) => self.accepted(&accepted, TEXT_TABLES),
+            Err(refusal) => self.refused(refusal, TEXT_TABLES),
+        }
+    }
+
+    /// The write for a list of the table.
+    fn write_of_the_table(&mut self, case: &TextCase) -> io::Result<()> {
+        let found = write(&case.input, CEILING_LIMIT, TEXT_OUTPUT);
+        let due = as_the_table_says(case, found)?;
+        self.input(&case.input)?;
+        self.written(CEILING_LIMIT, TEXT_OUTPUT, due)
+    }
+
     /// A message and a list; every tenth case has two at the limits beside them, as long as there
     /// are any, and every eighth message may have any length.
     fn of_a_case(&mut self, seed: u64, case: u64) -> io::Result<()> {
@@ -138,19 +176,30 @@ impl Calls<'_> {
                 Err(_) => vec![self.random.pick(&[0, 1, 2_000, FAR_OUTPUT])],
             };
             for length in self.some(lengths, most) {
-                self.write(list, ceiling, length)?;
+                self.written(ceiling, length, write(list, ceiling, length))?;
             }
         }
         Ok(())
     }
 
-    fn write(&mut self, list: &[u8], ceiling: u64, length: usize) -> io::Result<()> {
-        let (number, place, message) = match write(list, ceiling, length) {
-            Ok(message) => (0, message.len(), message),
-            Err(refusal) => (u64::from(refusal.number), refusal.place, String::new()),
+    /// A write with its ceiling and the length of the output, and what must come of it.
+    fn written(
+        &mut self,
+        ceiling: u64,
+        length: usize,
+        due: Result<String, Refusal>,
+    ) -> io::Result<()> {
+        let (answer, message) = match due {
+            Ok(message) => ([0, message.len() as u64, 0], message),
+            Err(refusal) => {
+                let field = refusal.field.unwrap_or(0);
+                let answer = [refusal.number.into(), refusal.place as u64, field as u64];
+                (answer, String::new())
+            }
         };
         let record = Record::of(b'W')
-            .numbers(&[ceiling, length as u64, number, place as u64])
+            .numbers(&[ceiling, length as u64])
+            .numbers(&answer)
             .numbers(&[message.len() as u64])
             .bytes(message.as_bytes());
         self.call(record)
@@ -201,6 +250,23 @@ fn lengths_of_tables(needed: Tables) -> Vec<Tables> {
 /// An output exactly long enough, one too short, empty, one longer and far too long.
 fn lengths_of_output(needed: usize) -> Vec<usize> {
     vec![needed, needed, needed + 1, FAR_OUTPUT, needed - 1, 0]
+}
+
+/// The answer that the table says; an error where this program finds another, since one of them
+/// is at fault then.
+fn as_the_table_says<T>(
+    case: &TextCase,
+    found: Result<T, Refusal>,
+) -> io::Result<Result<T, Refusal>> {
+    let refusal = found.as_ref().err().copied();
+    case.answer(found).ok_or_else(|| {
+        let (name, due, found) = (&case.name, said(case.due), said(refusal));
+        io::Error::other(format!("{name}: the table says {due}, found {found}"))
+    })
+}
+
+fn said(refusal: Option<Refusal>) -> String {
+    refusal.map_or("OK".to_string(), |refusal| refusal.to_string())
 }
 
 /// One part of the stream.

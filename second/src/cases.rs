@@ -122,7 +122,7 @@ fn about(needed: usize, random: &mut Random) -> usize {
 }
 
 /// How many of a directory's cases have each of the outcomes.
-pub fn reach(directory: &Path, numbers: std::ops::RangeInclusive<u32>) -> io::Result<String> {
+pub fn reach(directory: &Path, numbers: &[u32]) -> io::Result<String> {
     let mut found: BTreeMap<String, usize> = BTreeMap::new();
     for entry in fs::read_dir(directory)? {
         let path = entry?.path();
@@ -130,7 +130,7 @@ pub fn reach(directory: &Path, numbers: std::ops::RangeInclusive<u32>) -> io::Re
             *found.entry(outcome(&fs::read(path)?)).or_default() += 1;
         }
     }
-    let names = numbers.map(|number| number.to_string());
+    let names = numbers.iter().map(|number| number.to_string());
     let outcomes = ["OK".to_string()].into_iter().chain(names);
     let lines = outcomes.map(|name| format!("{name}: {}\n", found.remove(&name).unwrap_or(0)));
     let mut lines: String = lines.collect();

@@ -1,5 +1,5 @@
-//! The check: its stages 1 to 11 in order, the rows of an accepted message, and what the checking
-//! program prints.
+//! The check: its stages in order, the rows of an accepted message, and what the checking program
+//! prints.
 
 use crate::answer::{refuse, Refusal};
 use crate::automaton::Automaton;
@@ -81,11 +81,12 @@ fn limits(message: &Message) -> Result<(), Refusal> {
     }
 }
 
-/// Stage 5.
+/// The stage of 51 to 58: the fault of the first text that has one.
 fn texts(message: &Message) -> Result<(), Refusal> {
-    let mut texts = message.texts.iter();
-    match texts.find(|(rule, text)| !rule.allows(text.bytes)) {
-        Some((_, text)) => refuse(5, text.start),
+    let texts = message.texts.iter();
+    let mut faults = texts.filter_map(|(rule, text)| Some((rule.fault(text.bytes)?, text.start)));
+    match faults.next() {
+        Some((fault, start)) => refuse(fault.number(), start),
         None => Ok(()),
     }
 }

@@ -1,8 +1,8 @@
-//! The day list: lines, frames and values, with the refusals 23 to 26.
+//! The day list: lines, frames and values, with the refusals 23 to 25 and 51 to 58.
 
-use crate::answer::{refuse, Refusal};
+use crate::answer::{refuse, refuse_value, Refusal};
 use crate::profile::{CENTS_LIMIT, COLLECTION_LIMIT, SCHEMES, SEQUENCES};
-use crate::rules::Rule;
+use crate::rules::{Fault, Rule};
 
 /// The texts of a creditor frame, with their rules. `true`: length 0 is allowed.
 pub const CREDITOR_RULES: [(Rule, bool); 7] = [
@@ -50,7 +50,7 @@ pub struct DayList {
 }
 
 impl DayList {
-    /// Reads a list through stages 23 to 26.
+    /// Reads a list through the stages of 23 to 25 and of 51 to 58.
     pub fn read(list: &[u8]) -> Result<DayList, Refusal> {
         let mut creditor = None;
         let mut collections = Vec::new();
@@ -76,33 +76,51 @@ impl DayList {
     }
 }
 
-/// Stage 26.
+/// The stage of 51 to 58: the first line with a fault, and the first of its fields that has one.
 fn judge(creditor: Creditor, collections: Vec<Collection>) -> Result<DayList, Refusal> {
-    if !allowed(&creditor.texts, &CREDITOR_RULES) {
-        return refuse(26, 1);
+    let of_creditor = [creditor.faults()].into_iter();
+    let of_lines = of_creditor.chain(collections.iter().map(Collection::faults));
+    for (faults, line) in of_lines.zip(1..) {
+        for (fault, field) in faults.into_iter().zip(1..) {
+            if let Some(fault) = fault {
+                return refuse_value(fault.number(), line, field);
+            }
+        }
     }
-    match collections.iter().position(|found| !found.allowed()) {
-        Some(index) => refuse(26, index + 2),
-        None => Ok(DayList {
-            creditor,
-            collections,
-        }),
+    Ok(DayList {
+        creditor,
+        collections,
+    })
+}
+
+impl Creditor {
+    /// The fault of each field, if it has one.
+    fn faults(&self) -> Vec<Option<Fault>> {
+        faults_of_texts(&self.texts, &CREDITOR_RULES)
     }
 }
 
 impl Collection {
-    fn allowed(&self) -> bool {
-        usize::from(self.scheme) < SCHEMES.len()
-            && usize::from(self.sequence) < SEQUENCES.len()
-            && (1..=CENTS_LIMIT).contains(&self.cents)
-            && allowed(&self.texts, &COLLECTION_RULES)
+    /// Likewise: scheme, sequence and cents are the first three fields.
+    fn faults(&self) -> Vec<Option<Fault>> {
+        let mut faults = vec![
+            Fault::Code.unless(usize::from(self.scheme) < SCHEMES.len()),
+            Fault::Code.unless(usize::from(self.sequence) < SEQUENCES.len()),
+            Fault::Number.unless((1..=CENTS_LIMIT).contains(&self.cents)),
+        ];
+        faults.extend(faults_of_texts(&self.texts, &COLLECTION_RULES));
+        faults
     }
 }
 
-fn allowed(texts: &[Vec<u8>], rules: &[(Rule, bool)]) -> bool {
-    let mut pairs = texts.iter().zip(rules);
+fn faults_of_texts(texts: &[Vec<u8>], rules: &[(Rule, bool)]) -> Vec<Option<Fault>> {
+    let pairs = texts.iter().zip(rules);
     pairs
-        .all(|(text, (rule, may_be_empty))| (text.is_empty() && *may_be_empty) || rule.allows(text))
+        .map(|(text, (rule, may_be_empty))| match text.is_empty() {
+            true if *may_be_empty => None,
+            _ => rule.fault(text),
+        })
+        .collect()
 }
 
 /// The bytes of a line of an even number of hexadecimal digits, ended by LF.

@@ -123,6 +123,22 @@ fn plain(most: usize, random: &mut Random) -> Vec<Vec<u8>> {
             edges.push(with_byte(&letters(length, random), place, byte));
         }
     }
+    edges.extend(with_two_faults(most, random));
+    edges
+}
+
+/// A byte too many with a strange letter or with slashes, and a strange letter between slashes.
+fn with_two_faults(most: usize, random: &mut Random) -> Vec<Vec<u8>> {
+    let mut edges = Vec::new();
+    for place in [0, most / 2, most] {
+        let text = letters(most + 1, random);
+        edges.push(with_byte(&text, place, 0xFC));
+        edges.push(with_byte(&text, place, b'/'));
+    }
+    for place in [1, most / 2, most - 2] {
+        let text = [b"/", &letters(most - 2, random)[..], b"/"].concat();
+        edges.push(with_byte(&text, place, 0xFC));
+    }
     edges
 }
 
@@ -257,6 +273,8 @@ fn ibans(random: &mut Random) -> Vec<Vec<u8>> {
         "Gb29NWBK60161331926819",
         "gB29NWBK60161331926819",
         "GB29nwbk60161331926819",
+        "GB28nwbk60161331926819",
+        "gb28nwbk60161331926819",
         "GB29NWBKa0161331926819",
         "BE540",
         "BE54",
@@ -375,6 +393,7 @@ fn codes(words: &[&str]) -> Vec<Vec<u8>> {
         "SLEV",
         "SHAR",
         NOT_PROVIDED,
+        "NOTPROVIDEX",
         " ",
     ]);
     for word in words {

@@ -6,7 +6,7 @@ use crate::daylist::{COLLECTION_RULES, CREDITOR_RULES};
 use crate::edges::edge_in_turn;
 use crate::frames::line;
 use crate::list_draft::{any_draft, different_terms, draft, Draft};
-use crate::list_faults::{any_collection, FRAME_FAULTS, LINE_FAULTS, VALUE_FAULTS};
+use crate::list_faults::{any_collection, two_bad_fields, FRAME_FAULTS, LINE_FAULTS, VALUE_FAULTS};
 use crate::profile::{BATCH_LIMIT, CEILING_LIMIT, COLLECTION_LIMIT, MESSAGE_LIMIT};
 use crate::random::{turn, Random};
 use crate::rules::Rule;
@@ -161,25 +161,25 @@ fn with_line_fault(random: &mut Random) -> (Vec<u8>, u64) {
     (lines.concat(), any_ceiling(random))
 }
 
-/// A fault of a value, and another of a value or of a line.
+/// Two bad fields, or a fault of a value and another of a line.
 fn with_two_faults(random: &mut Random) -> (Vec<u8>, u64) {
     let mut draft = any_draft(random);
-    random.pick(VALUE_FAULTS)(&mut draft, random);
     if random.once_in(2) {
-        random.pick(VALUE_FAULTS)(&mut draft, random);
+        two_bad_fields(&mut draft, random);
         return (draft.list(), any_ceiling(random));
     }
+    random.pick(VALUE_FAULTS)(&mut draft, random);
     let mut lines = draft.lines();
     random.pick(LINE_FAULTS)(&mut lines, random);
     (lines.concat(), any_ceiling(random))
 }
 
-/// Every edge of every rule in turn, at some text of its rule.
+/// Every edge of every rule in turn, at some field of its rule.
 fn with_edge_in_turn(turn: usize, random: &mut Random) -> (Vec<u8>, u64) {
     let (rule, mut text) = edge_in_turn(&rules_of_the_list(), turn, random);
     text.truncate(255);
     let mut draft = any_draft(random);
-    let mut places = texts_of(&mut draft, rule);
+    let mut places = texts_of(&mut draft, rule, random);
     let place = random.below(places.len());
     *places.swap_remove(place) = text;
     (draft.list(), any_ceiling(random))
@@ -209,12 +209,12 @@ fn rules_of_the_list() -> Vec<Rule> {
     rules
 }
 
-/// The texts of a rule.
-fn texts_of(draft: &mut Draft, wanted: Rule) -> Vec<&mut Vec<u8>> {
+/// The texts of a rule, of the creditor and of some collection.
+fn texts_of<'a>(draft: &'a mut Draft, wanted: Rule, random: &mut Random) -> Vec<&'a mut Vec<u8>> {
+    let index = random.below(draft.collections.len());
     let of_creditor = draft.creditor.texts.iter_mut().zip(CREDITOR_RULES);
-    let collections = draft.collections.iter_mut();
-    let of_collections = collections.flat_map(|c| c.texts.iter_mut().zip(COLLECTION_RULES));
-    let all = of_creditor.chain(of_collections);
+    let of_collection = draft.collections[index].texts.iter_mut();
+    let all = of_creditor.chain(of_collection.zip(COLLECTION_RULES));
     all.filter(|(_, (rule, _))| *rule == wanted)
         .map(|(text, _)| text)
         .collect()

@@ -69,6 +69,42 @@ fn some_edge(draft: &mut Draft, random: &mut Random) {
     text.truncate(255);
 }
 
+/// Two fields break their rules, of one line or of any two.
+pub fn two_bad_fields(draft: &mut Draft, random: &mut Random) {
+    let lines = 1 + draft.collections.len();
+    let line = random.below(lines);
+    let other = match random.once_in(2) {
+        true => line,
+        false => random.below(lines),
+    };
+    bad_field(draft, line, random);
+    bad_field(draft, other, random);
+}
+
+/// Some field of a line, counted from 0, breaks its rule.
+fn bad_field(draft: &mut Draft, line: usize, random: &mut Random) {
+    if line == 0 {
+        let field = random.below(CREDITOR_RULES.len());
+        draft.creditor.texts[field] = bad_text(CREDITOR_RULES[field], random);
+        return;
+    }
+    let collection = &mut draft.collections[line - 1];
+    match random.below(3 + COLLECTION_RULES.len()) {
+        0 => collection.scheme = random.pick(&[2, 3, 255]),
+        1 => collection.sequence = random.pick(&[4, 5, 255]),
+        2 => collection.cents = random.pick(&[0, CENTS_LIMIT + 1, (1 << 40) - 1]),
+        field => collection.texts[field - 3] = bad_text(COLLECTION_RULES[field - 3], random),
+    }
+}
+
+fn bad_text((rule, may_be_empty): (Rule, bool), random: &mut Random) -> Vec<u8> {
+    let mut edges = edges(rule, random);
+    edges.retain(|text| !rule.allows(text) && !(may_be_empty && text.is_empty()));
+    let mut text = random.pick(&edges);
+    text.truncate(255);
+    text
+}
+
 fn empty_text(draft: &mut Draft, random: &mut Random) {
     any_text(draft, random).0.clear();
 }

@@ -25,16 +25,20 @@ mod samples;
 mod selftest;
 mod test_bundle;
 mod test_cases;
+mod test_faults;
 mod test_form;
 mod test_lists;
 mod test_texts;
 mod test_totals;
+mod text_cases;
+mod text_table;
 mod total_faults;
 mod tree;
 mod tree_faults;
 mod vectors;
 mod writer;
 
+use answer::{CHECK_NUMBERS, WRITE_NUMBERS};
 use cases::{check_cases, reach, write_cases, Arrays, Order};
 use check::{printed, printed_rows, Checker, Tables};
 use std::io::{self, Read, Write};
@@ -85,8 +89,8 @@ fn run(words: &[&str]) -> Result<ExitCode, Fault> {
                 _ => return Err(USAGE.into()),
             }
         }
-        ["reach", "check", directory] => print(&reach(Path::new(directory), 1..=11)?)?,
-        ["reach", "write", directory] => print(&reach(Path::new(directory), 21..=28)?)?,
+        ["reach", "check", directory] => print(&reach(Path::new(directory), CHECK_NUMBERS)?)?,
+        ["reach", "write", directory] => print(&reach(Path::new(directory), WRITE_NUMBERS)?)?,
         ["calls", seed, count] => {
             let mut out = io::BufWriter::new(io::stdout().lock());
             calls::calls(number(seed)?, number(count)?, &mut out)?;

@@ -1,4 +1,5 @@
-//! The rules of document 01's section "Texts", and the values of counts, sums and amounts.
+//! The rules of document 01's section "Texts", what is wrong with a text that breaks its rule, and
+//! the values of counts, sums and amounts.
 
 use crate::profile::{paths, CENTS_LIMIT, NOT_PROVIDED, SCHEMES, SEQUENCES};
 
@@ -16,6 +17,30 @@ pub enum Rule {
     Bic,
     CreditorId,
     OneOf(&'static [&'static str]),
+}
+
+/// What is wrong with a text, or with a number of a day list; each has the number of its refusal.
+#[derive(Clone, Copy, Debug, PartialEq, Eq)]
+pub enum Fault {
+    Length = 51,
+    Letter = 52,
+    Slash = 53,
+    Number = 54,
+    Date = 55,
+    Code = 56,
+    Shape = 57,
+    CheckDigits = 58,
+}
+
+impl Fault {
+    /// This fault, unless a test was passed.
+    pub fn unless(self, passed: bool) -> Option<Fault> {
+        (!passed).then_some(self)
+    }
+
+    pub fn number(self) -> u32 {
+        self as u32
+    }
 }
 
 /// The letter set.
@@ -61,19 +86,26 @@ pub fn rules_of_the_profile() -> Vec<Rule> {
 
 impl Rule {
     pub fn allows(self, text: &[u8]) -> bool {
+        self.fault(text).is_none()
+    }
+
+    /// The fault of the first test that a text fails, if it fails any: a plain text is tested for
+    /// its length, its letters and, where it identifies something, its slashes, an IBAN for its
+    /// shape and its check digits, every other text once.
+    pub fn fault(self, text: &[u8]) -> Option<Fault> {
         match self {
-            Rule::Id => plain(text, 35) && slashes(text),
+            Rule::Id => plain(text, 35).or_else(|| Fault::Slash.unless(slashes(text))),
             Rule::Name => plain(text, 70),
             Rule::Remittance => plain(text, 140),
-            Rule::Count => count(text).is_some(),
-            Rule::Sum => sum(text).is_some(),
-            Rule::Amount => amount(text).is_some(),
-            Rule::Date => date(text),
-            Rule::Time => time(text),
+            Rule::Count => Fault::Number.unless(count(text).is_some()),
+            Rule::Sum => Fault::Number.unless(sum(text).is_some()),
+            Rule::Amount => Fault::Number.unless(amount(text).is_some()),
+            Rule::Date => Fault::Date.unless(date(text)),
+            Rule::Time => Fault::Date.unless(time(text)),
             Rule::Iban => iban(text),
-            Rule::Bic => bic(text),
-            Rule::CreditorId => creditor_id(text),
-            Rule::OneOf(words) => words.iter().any(|word| word.as_bytes() == text),
+            Rule::Bic => Fault::Shape.unless(bic(text)),
+            Rule::CreditorId => Fault::Shape.unless(creditor_id(text)),
+            Rule::OneOf(words) => Fault::Code.unless(words.iter().any(|w| w.as_bytes() == text)),
         }
     }
 }
@@ -116,8 +148,11 @@ pub fn moved_digits(text: &[u8]) -> String {
         .collect()
 }
 
-fn plain(text: &[u8], longest: usize) -> bool {
-    (1..=longest).contains(&text.len()) && text.iter().all(|byte| LETTERS.contains(byte))
+fn plain(text: &[u8], longest: usize) -> Option<Fault> {
+    let letters = || text.iter().all(|byte| LETTERS.contains(byte));
+    Fault::Length
+        .unless((1..=longest).contains(&text.len()))
+        .or_else(|| Fault::Letter.unless(letters()))
 }
 
 fn slashes(text: &[u8]) -> bool {
@@ -209,8 +244,10 @@ fn day_of(number: i64) -> (i64, i64, i64) {
     }
 }
 
-fn iban(text: &[u8]) -> bool {
-    fits_and_more(text, "AA99", b'L', 30) && remainder_by_97(text) == 1
+fn iban(text: &[u8]) -> Option<Fault> {
+    Fault::Shape
+        .unless(fits_and_more(text, "AA99", b'L', 30))
+        .or_else(|| Fault::CheckDigits.unless(remainder_by_97(text) == 1))
 }
 
 fn bic(text: &[u8]) -> bool {

@@ -3,7 +3,7 @@
 use crate::check::{printed, Checker, Tables};
 use crate::profile::{paths, DECLARATION, MESSAGE_LIMIT};
 use crate::selftest::Bench;
-use crate::vectors::MESSAGE;
+use crate::vectors::{with, MESSAGE};
 
 pub fn run(bench: &mut Bench) {
     let tester = Tester::new();
@@ -39,12 +39,6 @@ impl Tester {
         let answer = self.checker.check(message.as_ref(), tables);
         printed(&answer).trim_end().to_string()
     }
-}
-
-/// The message of the vectors with the first find of a text exchanged.
-pub fn with(from: &str, to: &str) -> String {
-    assert!(MESSAGE.contains(from), "the message has no {from}");
-    MESSAGE.replacen(from, to, 1)
 }
 
 /// A stretch of the message of the vectors, from the first find of a text to the end of another.
@@ -241,12 +235,28 @@ fn text_around(place: usize) -> Option<usize> {
     (!in_tag).then_some(opened + 1)
 }
 
+/// The number of a text with a byte outside the letter set, by the element that it starts in.
+fn number_of_strange_text(start: usize) -> u32 {
+    let tags = &MESSAGE[..start];
+    let opening = &tags[tags.rfind('<').unwrap()..];
+    match opening {
+        "<MsgId>" | "<PmtInfId>" | "<EndToEndId>" | "<MndtId>" | "<Nm>" | "<Ustrd>" => 52,
+        "<NbOfTxs>" | "<CtrlSum>" | r#"<InstdAmt Ccy="EUR">"# => 54,
+        "<CreDtTm>" | "<ReqdColltnDt>" | "<DtOfSgntr>" => 55,
+        "<PmtMtd>" | "<BtchBookg>" | "<Cd>" | "<SeqTp>" | "<ChrgBr>" | "<Prtry>" => 56,
+        "<Id>" if tags.ends_with("<FinInstnId><Othr><Id>") => 56,
+        "<Id>" if tags.ends_with("<PrvtId><Othr><Id>") => 57,
+        "<IBAN>" | "<BICFI>" => 57,
+        _ => unreachable!("the message has no other texts"),
+    }
+}
+
 fn every_byte_changed(bench: &mut Bench, tester: &Tester) {
     let wrong = (0..MESSAGE.len()).find(|&place| {
         let mut message = MESSAGE.as_bytes().to_vec();
         message[place] = 1;
         let due = match text_around(place) {
-            Some(start) => format!("NO 5 {start}"),
+            Some(start) => format!("NO {} {start}", number_of_strange_text(start)),
             None if ends_text(place) => format!("NO 2 {}", place_past_text(place)),
             None => format!("NO 2 {place}"),
         };

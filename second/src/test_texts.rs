@@ -1,10 +1,8 @@
-//! Tests of the text rules and of refusal 5.
+//! Tests of the text rules: which texts they allow, and the values of counts, sums and amounts.
 
 use crate::random::Random;
 use crate::rules::{amount, count, moved_digits, remainder_by_97, sum, Rule, LETTERS};
 use crate::selftest::Bench;
-use crate::test_form::{with, Tester, GOOD};
-use crate::vectors::MESSAGE;
 
 pub fn run(bench: &mut Bench) {
     stars(bench);
@@ -16,7 +14,6 @@ pub fn run(bench: &mut Bench) {
     codes(bench);
     identifications(bench);
     remainders(bench);
-    refusals(bench);
 }
 
 fn judge(bench: &mut Bench, rule: Rule, good: &[&str], bad: &[&str]) {
@@ -74,9 +71,6 @@ fn plain_texts(bench: &mut Bench) {
     judge(bench, Rule::Id, &["A/ /B", " /A", "A/ "], &slashes);
     judge(bench, Rule::Name, &slashes, &[]);
     judge(bench, Rule::Remittance, &slashes, &[]);
-    let mut long = vec![b'/'; 35];
-    long[34] = 0xFC;
-    bench.holds("slashes and a strange byte", !Rule::Id.allows(&long));
 }
 
 fn numbers(bench: &mut Bench) {
@@ -277,39 +271,4 @@ fn remainders(bench: &mut Bench) {
         left != remainder_by_97(&text)
     });
     bench.same("remainders", wrong, None);
-}
-
-fn refusals(bench: &mut Bench) {
-    let tester = Tester::new();
-    for text in ["F>E 1", "F&E 1", "F\0E 1", "", "/FEE", "FEE]]>", "F\u{e9}E"] {
-        let message = with(">FEE 1<", &format!(">{text}<"));
-        bench.same("bad EndToEndId", tester.answer(message), "NO 5 914");
-    }
-    let place = MESSAGE.find("NOTPROVIDED").unwrap();
-    let other = with("NOTPROVIDED", "NOTPROVIDEX");
-    bench.same(
-        "bad Id of a bank",
-        tester.answer(other),
-        format!("NO 5 {place}"),
-    );
-    let place = MESSAGE.find("BBRUBEBB").unwrap();
-    let banned = with("BBRUBEBB", "NOTPROVIDED");
-    bench.same(
-        "BICFI NOTPROVIDED",
-        tester.answer(banned),
-        format!("NO 5 {place}"),
-    );
-    let instruction = with("<PmtId>", "<PmtId><InstrId>A//B</InstrId>");
-    bench.same("bad InstrId", tester.answer(instruction), "NO 5 911");
-    let place = MESSAGE.find("GB29").unwrap();
-    let iban_and_count = with("GB29", "GB28").replacen("<NbOfTxs>2", "<NbOfTxs>3", 1);
-    bench.same(
-        "bad IBAN and wrong count",
-        tester.answer(iban_and_count),
-        format!("NO 5 {place}"),
-    );
-    let sixteen = with("<NbOfTxs>2", "<NbOfTxs>0000000000000002");
-    bench.same("16 digits", tester.answer(sixteen), "NO 5 203");
-    let name = with("O'Neil Testing", " ");
-    bench.same("a name of a space", tester.answer(name), GOOD);
 }

@@ -2,8 +2,8 @@
 
 use crate::check::{printed_rows, Checker, Tables};
 use crate::selftest::Bench;
-use crate::test_form::{stretch, with, Tester, GOOD};
-use crate::vectors::MESSAGE;
+use crate::test_form::{stretch, Tester, GOOD};
+use crate::vectors::{with, MESSAGE};
 
 pub fn run(bench: &mut Bench) {
     let tester = Tester::new();

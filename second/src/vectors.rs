@@ -1,5 +1,8 @@
-//! The day list and the written message that the numbers of the self-test are about: one creditor,
-//! two collections of the same terms.
+//! The day list and the written message that the numbers of the self-test and of the table are
+//! about: one creditor, two collections of the same terms.
+
+use crate::daylist::DayList;
+use crate::frames;
 
 /// Three lines, each ended by LF.
 pub const LIST: &str = concat!(
@@ -39,3 +42,23 @@ pub const MESSAGE: &str = concat!(
     "</DbtrAgt><Dbtr><Nm>Mr Debiteur N2</Nm></Dbtr><DbtrAcct><Id><IBAN>BE30001216371411",
     "</IBAN></Id></DbtrAcct></DrctDbtTxInf></PmtInf></CstmrDrctDbtInitn></Document>",
 );
+
+/// The message with the first find of a text exchanged.
+pub fn with(from: &str, to: &str) -> String {
+    assert!(MESSAGE.contains(from), "the message has no {from}");
+    MESSAGE.replacen(from, to, 1)
+}
+
+pub fn day_list() -> DayList {
+    DayList::read(LIST.as_bytes()).expect("the vectors are a good list")
+}
+
+/// The list with another text in a field, counted as in a refusal.
+pub fn list_with_text(line: usize, field: usize, text: &[u8]) -> Vec<u8> {
+    let mut list = day_list();
+    match line {
+        1 => list.creditor.texts[field - 1] = text.to_vec(),
+        _ => list.collections[line - 2].texts[field - 4] = text.to_vec(),
+    }
+    frames::list(&list.creditor, &list.collections)
+}

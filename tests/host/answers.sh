@@ -58,7 +58,10 @@ expect 'desk check --json --declared examples/day.xml /nowhere examples/printed.
 {"file":"/nowhere","status":2,"error":"cannot be r
 {"file":"examples/printed.xml","status":3,"batches'
 expect 'desk write --json examples/day.list --ceiling 1 2>&1 > /dev/null' 0 '{"file":"examples/day.list","status":0,"bytes":2338,"batches":2,"transactions":2,"cents":325015,"batch":[{"number":1,"transactions":1,"cents":110007,"declared_count":1,"declared_cents":110007},{"number":2,"transactions":1,"cents":215008,"declared_count":1,"declared_cents":215008}]}'
-expect "sed '3s/^0200/0202/' examples/day.list | desk write --json - --ceiling 1" 1 '{"file":"-","status":1,"number":26,"place":3,"means":"A value breaks its rule."}'
+expect "sed '3s/^0200/0202/' examples/day.list | desk write --json - --ceiling 1" 1 '{"file":"-","status":1,"number":56,"place":3,"means":"A code is none of those that may stand there.","field":1,"field_name":"scheme"}'
+expect "sed '1s/4242525542454242/4242525542454243/; 1s/42453638/42453639/' examples/day.list | desk write --json - --ceiling 1" 1 '{"file":"-","status":1,"number":58,"place":1,"means":"The check digits of an IBAN do not fit.","field":5,"field_name":"creditor IBAN"}'
+expect "sed 's/FEE 2/FEE_2/' examples/day.xml | desk check --json -" 1 '{"file":"-","status":1,"number":52,"place":1353,"means":"A text has a letter that is not in the letter set.","line":1,"column":1354}'
+expect 'desk write --json examples/day.xml --ceiling 1' 1 '{"file":"examples/day.xml","status":1,"number":23,"place":1,"means":"A line is not a frame of its kind, or lacks its LF."}'
 expect 'cp examples/day.xml "$made/a\"b" && cd "$made" && desk check --json "a\"b" | cut -c 1-26; rm "a\"b"' 0 '{"file":"a\"b","status":0,'
 # every line of the text is a string of the explanation
 expect 'diff <(desk check --json --explain examples/cut-off.xml | grep -o "\"explanation\":.*" | tr -cd "{" ; desk check --json --explain examples/cut-off.xml | sed "s/.*\"explanation\":\[//; s/]}$//; s/\",\"/\"\n\"/g" | wc -l) <(desk check --explain examples/cut-off.xml | tail -n +2 | wc -l)' 0 ''

@@ -174,43 +174,48 @@ swap 1100.07 "1'100.07" "line 2, column 12: the amount \"1'100.07\": ..$how"
 # five bytes hold 10995116277.75
 swap 1100.07 10995116277.76 "line 2, column 20: the amount \"10995116277.76\": ..$how"
 swap 1100.07 99999999999999999999999999 "line 2, column 20: the amount \"99999999999999999999999999\": ..$how"
-swap 1100.07 10995116277.75 'NO 26 2
-line 2, column 20: the amount "10995116277.75": ..'
-swap 1100.07 0.00 'NO 26 2
-line 2, column 11: the amount "0.00": ..'
+expect "printf '%s\n' '$fields' '${record/1100.07/10995116277.75}' '${record/1100.07/000}' | desk list \$creditor -" 1 'NO 54 2 3
+line 2, column 11: the amount "10995116277.75": It is 10995116277.75 EUR; the most is 999999999.99 EUR.
+line 3, column 11: the amount "000": It is 0.00 EUR; the least is 0.01 EUR.'
 # a length byte holds 255
 swap 'Facture N1' "$(printf %0256d 0)" 'line 2, column 94: the remittance has 256 bytes; a text of a day list has at most 255.'
-swap 'Facture N1' "$(printf %0255d 0)" "NO 26 2
+swap 'Facture N1' "$(printf %0255d 0)" "NO 51 2 11
 line 2, column 234: the remittance \"$(printf %060d 0)\" .. (255 bytes): .."
 expect "printf '%s\n' '$fields' '$record' | desk list \$creditor --creditor-bic $(printf %0256d 0) -" 1 '--creditor-bic: the creditor BIC has 256 bytes; a text of a day list has at most 255.'
 
 # values that break their rules: all of them, each at the byte at fault, with a word about letters
-swap 'Mr Debiteur' 'Zoë Debiteur' 'NO 26 2
+swap 'Mr Debiteur' 'Zoë Debiteur' 'NO 52 2 9
 line 2, column 58: the debtor name "Zoë Debiteur N1": ..
 No letter is changed: write the text with letters of the set.'
-swap 'Mr Debiteur N1' '"Zoë, ""N1"""' 'NO 26 2
+swap 'Mr Debiteur N1' '"Zoë, ""N1"""' 'NO 52 2 9
 line 2, column 59: the debtor name "Zoë, "N1"": ..
 No letter is changed: write the text with letters of the set.'
 # the 71st character; a doubled quote before it is one character of the text, and two of the file
-swap 'Mr Debiteur N1' "\"\"\"$(printf %070d 0)\"" "NO 26 2
+swap 'Mr Debiteur N1' "\"\"\"$(printf %070d 0)\"" "NO 51 2 9
 line 2, column 128: the debtor name \"\"$(printf %059d 0)\" .. (71 bytes): .."
-swap 'Mr Debiteur N1' $'"Mr\nDebiteur"' 'NO 26 2
+swap 'Mr Debiteur N1' $'"Mr\nDebiteur"' 'NO 52 2 9
 line 2, column 59: the debtor name "Mr\x0aDebiteur": ..
 No letter is changed: write the text with letters of the set.'
 records "$record
 ${record/2026-11-10,FEE 1/10.11.2026,FEE_1}
-${record/N1,GB29NWBK60161331926819/N1,GB28NWBK60161331926819}" 1 'NO 26 3
+${record/N1,GB29NWBK60161331926819/N1,GB28NWBK60161331926819}" 1 'NO 55 3 4
 line 3, column 21: the collection date "10.11.2026": ..
 line 3, column 33: the end-to-end id "FEE_1": ..
 line 4, column 73: the debtor IBAN "GB28NWBK60161331926819": ..
 No letter is changed: write the text with letters of the set.'
-swap 2026-11-10 2026-02-30 'NO 26 2
+swap 2026-11-10 2026-02-30 'NO 55 2 4
 line 2, column 27: the collection date "2026-02-30": ..'
-swap 55555 '5//5' 'NO 26 2
+swap 55555 '5//5' 'NO 53 2 6
 line 2, column 39: the mandate id "M-5//5": ..'
-swap ',Mr Debiteur N1' ',' 'NO 26 2
+swap ',Mr Debiteur N1' ',' 'NO 51 2 9
 line 2, column 56: the debtor name "": ..'
-expect "printf '%s\n' '$fields' '${record/FEE 1//FEE 1}' | desk list ${creditor/=Lab/=Zoë} - 2>&1 | sed \"\$cut\"" 0 'NO 26 1
+swap 2009-09-01,, 2009-09-01,NOTPROVIDED, 'NO 57 2 8
+line 2, column 55: the debtor BIC "NOTPROVIDED": ..'
+swap GB29NWBK6016 'GB29 NWBK 6016' 'NO 57 2 10
+line 2, column 75: the debtor IBAN "GB29 NWBK 60161331926819": ..'
+swap GB29 GB92 'NO 58 2 10
+line 2, column 73: the debtor IBAN "GB92NWBK60161331926819": ..'
+expect "printf '%s\n' '$fields' '${record/FEE 1//FEE 1}' | desk list ${creditor/=Lab/=Zoë} - 2>&1 | sed \"\$cut\"" 0 'NO 52 1 4
 --creditor-name: the creditor name "Zoë": ..
 line 2, column 30: the end-to-end id "/FEE 1": ..
 No letter is changed: write the text with letters of the set.'
@@ -221,7 +226,7 @@ faults() { awk -v said="$1" 'BEGIN { for (n = 2; n <= 21; n++) print "line " n "
 records "$(many "${record/CORE/COR1}" 20)" 1 "$(faults '1: the scheme "COR1" must be CORE or B2B.')"
 records "$(many "${record/CORE/COR1}" 37)" 1 "$(faults '1: the scheme "COR1" must be CORE or B2B.')
 and 17 more"
-records "$(many "${record/Mr/Zoë}" 21)" 1 "NO 26 2
+records "$(many "${record/Mr/Zoë}" 21)" 1 "NO 52 2 9
 $(faults '58: the debtor name "Zoë Debiteur N1": ..')
 and 1 more
 No letter is changed: write the text with letters of the set."

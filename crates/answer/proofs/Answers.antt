@@ -1,27 +1,27 @@
 -- THE ANSWER: what each stage's arm finds, and the stages in a row, in plain variables.
 --   over-yes, over-no         the element that is one too many
---   above, flaw-late, text-none, text-some   the first text that breaks its rule
+--   text-none, text-some      the first text that breaks its rule
 --   batch-none, batch-count, batch-sum   the first batch that differs
 --   same, other               a declaration of the header
 --   room-yes, room-no         a table with room, and one that is too short
 --   answered                  the whole answer
 use Prim.Native.Nat.{ℕ, zero, suc, _+_, _-_, _*_, _≤_, _<_}
-use native.Mathlib.Omega.{arith}
 use mathlib.Core.Bool.{Bool, true, false}
-use mathlib.Core.List.{List, [], _∷_}
+use mathlib.Core.List.{List}
 use mathlib.Core.Option.{Option, none, some}
 use mathlib.Core.Path.{_≡_, refl, ap, sym, _∙_}
 use borrow.Author.Tests.{le-leb, lt-leb, ne-eqb}
 use lib.Dec.{leb}
 use lib.ListN.{getD}
 use Rattle.profile.specs.declared.Flaw.{Flaw}
-use Rattle.profile.specs.declared.Flaw.the-variants.{CheckDigits}
 use Rattle.profile.specs.declared.Totals.{Totals}
-use Rattle.profile.specs.Refusals.{Fault, fault, flawed}
+use Rattle.profile.specs.Refusals.{Fault, fault, flawNumber}
+use Rattle.profile.specs.Flaws.{flawOf}
 use Rattle.tree.specs.Parts as part
 use Rattle.message.specs.Verdict.{Verdict, verdict, at, orElse, unless}
 use Rattle.heard.specs.State.{when, over}
-use Rattle.heard.specs.Row.{flawSlot, batchesSlot, transactionsSlot, faultSlot, flaws, badIn, faultAt, rowOf}
+use Rattle.heard.specs.Row.{flawSlot, batchesSlot, transactionsSlot, faultSlot, badIn, faultAt, rowOf}
+use Rattle.heard.proofs.Rows.{any-some}
 use Rattle.answer.specs.Answer.{batchFound, countFound, sumFound, answer}
 
 -- ─── what each arm finds ───
@@ -37,31 +37,12 @@ module _ (n k p : ℕ) where
       go zero h = absurd (h refl)
       go (suc k) h = refl
 
-pub above : (a n : ℕ) → a ≤ n → (n ≡ a → ⊥) → suc a ≤ n
-above a n h g = omega (arith, g)
-
--- from 8 on there is one kind
-pub flaw-late : (n : ℕ) → 8 ≤ n → CheckDigits ≡ getD flaws (n - 1) CheckDigits
-flaw-late n h =
-    let e : n - 1 ≡ suc (suc (suc (suc (suc (suc (suc (n - 8))))))) = omega arith in
-    sym (ap (λ (k : ℕ). getD flaws k CheckDigits) e ∙ last (n - 8))
-  where
-    last : (k : ℕ) → getD (CheckDigits ∷ []) k CheckDigits ≡ CheckDigits
-    last zero = refl
-    last (suc k) = refl
-
 module _ (n p : ℕ) where
   pub text-none : n ≡ 0 → none ≡ badIn n p
   text-none h = rw h refl
 
-  pub text-some : (f : Flaw) → (n ≡ 0 → ⊥) → f ≡ getD flaws (n - 1) CheckDigits → some (flawed 5 f p) ≡ badIn n p
-  text-some f h e = ap (λ (x : Flaw). some (flawed 5 x p)) e ∙ go n h
-    where
-      go : (n : ℕ) → (n ≡ 0 → ⊥) → some (flawed 5 (getD flaws (n - 1) CheckDigits) p) ≡ badIn n p
-      go zero h = absurd (h refl)
-      go (suc n) h =
-          let z : suc n - 1 ≡ n = omega arith in
-          ap (λ (k : ℕ). some (flawed 5 (getD flaws k CheckDigits) p)) z
+  pub text-some : (f : Flaw) → (n ≡ 0 → ⊥) → f ≡ flawOf n → some (fault (flawNumber f) p) ≡ badIn n p
+  text-some f h e = ap (λ (x : Flaw). some (fault (flawNumber x) p)) e ∙ any-some n _ none h
 
   pub batch-none : n ≡ 0 → none ≡ batchFound (faultAt n p)
   batch-none h = rw h refl

@@ -1,4 +1,4 @@
--- WHAT AN ANSWER OF THE CODE SAYS, in the numbers and places of document 01. To be believed; definitions only.
+-- WHAT AN ANSWER OF THE CODE SAYS, in the papers' numbers and places. To be believed; definitions only.
 --   said r   the totals of an accepted message; the number and place of a refusal
 use Rattle.profile.specs.Refusals.{faultOf}
 use Rattle.message.specs.Verdict.{Verdict, Verdict.accepted, Verdict.refused}

@@ -1,14 +1,13 @@
-// What the check answers: the stages 3 to 11, from what was heard and the totals after the last event. Definitions: specs/.
+// What the check answers: the stages from 3 on, from what was heard and the totals after the last event. Definitions: specs/.
 ghost use mathlib.Core.Path.{_≡_};
-ghost use Prim.Native.Nat.{_+_, _-_, _*_, _≤_};
+ghost use Prim.Native.Nat.{_+_, _*_, _≤_};
 ghost use lib.Dec.{leb};
 ghost use lib.ListN.{length, getD};
 ghost use Rattle.profile.specs.Limits.{mostBytes};
-ghost use Rattle.profile.specs.declared.Flaw.the-variants.{CheckDigits};
 ghost use Rattle.tree.specs.Parts as part;
 ghost use Rattle.message.specs.Verdict.{verdict, at, orElse, unless};
 ghost use Rattle.heard.specs.State.{over};
-ghost use Rattle.heard.specs.Row.{heardLength, flawSlot, batchesSlot, transactionsSlot, faultSlot, flaws, badIn, faultAt, rowOf};
+ghost use Rattle.heard.specs.Row.{heardLength, flawSlot, batchesSlot, transactionsSlot, faultSlot, badIn, faultAt, rowOf};
 ghost use Rattle.answer.specs.Answer.{batchFound, countFound, sumFound, answer, stageFault};
 ghost use Rattle.answer.specs.Said.{said};
 use heard::Part;
@@ -65,23 +64,6 @@ fn transactions_stage(heard: &[u64]) -> Stage
     Stage::Refused(Refusal::TooManyTransactions(heard[Slot::TRANSACTIONS + 1] as usize))
 }
 
-// The kind of rule that has this number, from 1.
-fn flaw_of(n: u64) -> Flaw
-    requires { ⌜ 1 ≤ n ⌝ }
-    ensures { λ r. ⌜ r ≡ getD flaws (n - 1) CheckDigits ⌝ }
-{
-    match n {
-        1 => Flaw::Length,
-        2 => Flaw::Letter,
-        3 => Flaw::Slash,
-        4 => Flaw::Number,
-        5 => Flaw::Date,
-        6 => Flaw::Code,
-        7 => Flaw::Shape,
-        _ => Flaw::CheckDigits,
-    }
-}
-
 fn text_stage(heard: &[u64]) -> Stage
     requires { ⌜ length (now heard) ≡ heardLength ⌝ }
     ensures { λ r. ⌜ stageFault r ≡ badIn (getD (now (heard .entry)) flawSlot 0) (getD (now (heard .entry)) (flawSlot + 1) 0) ⌝ }
@@ -90,7 +72,7 @@ fn text_stage(heard: &[u64]) -> Stage
     if n == 0 {
         return Stage::Passed;
     }
-    let flaw = flaw_of(n);
+    let flaw = Flaw::of_number(n);
     Stage::Refused(Refusal::Text(flaw, heard[Slot::FLAW + 1] as usize))
 }
 
@@ -177,7 +159,7 @@ pub fn answer(heard: &[u64], totals: Totals, slips: usize, rows: usize) -> Check
     let c = totals.cents;
     let three = batches_stage(heard);
     let four = transactions_stage(heard);
-    let five = text_stage(heard);
+    let texts = text_stage(heard);
     let six = batch_stage(heard);
     let eight = count_stage(heard, n);
     let nine = sum_stage(heard, c);
@@ -186,8 +168,8 @@ pub fn answer(heard: &[u64], totals: Totals, slips: usize, rows: usize) -> Check
     let after_nine = or_else(ten, eleven);
     let after_eight = or_else(nine, after_nine);
     let after_six = or_else(eight, after_eight);
-    let after_five = or_else(six, after_six);
-    let after_four = or_else(five, after_five);
+    let after_texts = or_else(six, after_six);
+    let after_four = or_else(texts, after_texts);
     let after_three = or_else(four, after_four);
     let all = or_else(three, after_three);
     conclude(all, totals)

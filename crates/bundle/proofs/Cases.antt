@@ -8,7 +8,8 @@ use mathlib.Core.List.{List, [], _∷_, map}
 use mathlib.Core.Path.{_≡_, refl}
 use lib.Dec.{eqb}
 use lib.ListN.{replicate}
-use Rattle.bundle.specs.Bundle.{bundle, ceil, number}
+use Rattle.laws.specs.Lists.{number}
+use Rattle.bundle.specs.Bundle.{bundle, ceil}
 use Rattle.bundle.specs.Labels.{needOf, labelsOf}
 
 abbrev AABABAA : List ℕ

@@ -10,7 +10,6 @@
 --   Same xs ys             the same collections, repeats counted
 --   Fits terms c b         a batch within the ceiling and of its own terms
 --   Carries terms c xs bs  such batches that together hold the collections xs
---   number n xs            each collection with its line, from n
 use Prim.Native.Nat.{ℕ, zero, suc, _+_, _-_, _/_, _≤_}
 use mathlib.Core.Bool.{Bool, not}
 use mathlib.Core.List.{List, [], _∷_, map}
@@ -73,9 +72,3 @@ pub record Fits {X K : Type 0} (terms : X → K) (c : ℕ) (b : List X) : Type 0
 pub record Carries {X K : Type 0} (terms : X → K) (c : ℕ) (xs : List X) (bs : List (List X)) : Type 0 where
   pub fit : All (Fits terms c) bs
   pub same : Same (concat bs) xs
-
--- ─── collections known by their lines ───
-
-abbrev pub number : {X : Type 0} → ℕ → List X → List (ℕ × X)
-number n [] = []
-number n (x ∷ xs) = (n, x) ∷ number (suc n) xs

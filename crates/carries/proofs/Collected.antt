@@ -14,14 +14,13 @@ use mathlib.Core.Path.{_≡_, refl, ap, ap₂, sym, _∙_}
 use lib.Dec.{T}
 use lib.ListN.{length, drop}
 use Rattle.laws.specs.Bytes.{Bytes}
-use Rattle.laws.specs.Lists.{All, gather}
+use Rattle.laws.specs.Lists.{All, gather, number}
 use Rattle.laws.specs.Sections.{lastOr}
 use Rattle.laws.proofs.Below.{each}
 use Rattle.put.specs.Numerals.{decimal, euros}
 use Rattle.text.specs.declared.Rule.the-variants.{Amount, Count, Sum, Date, Scheme, Sequence}
 use Rattle.text.specs.Rules.{numberTold, judged}
 use Rattle.tree.specs.Parts as part
-use Rattle.bundle.specs.Bundle.{number}
 use Rattle.collections.specs.Listed.{Terms, Collection, Creditor}
 use Rattle.collections.specs.Good.{GoodTerms, GoodCollection}
 use Rattle.written.specs.Written.{schemeWord, sequenceWord, termsOf}

@@ -11,13 +11,12 @@ use mathlib.Core.Path.{_≡_, refl, ap, sym, _∙_}
 use lib.Dec.{T}
 use lib.ListN.{length}
 use Rattle.laws.specs.Bytes.{Bytes}
-use Rattle.laws.specs.Lists.{All, concat, gather}
+use Rattle.laws.specs.Lists.{All, concat, gather, number}
 use Rattle.put.specs.Numerals.{decimal, euros, batchId}
 use Rattle.text.specs.declared.Rule.the-variants.{Bic, Remittance}
 use Rattle.tree.specs.Form.{Elem, Tree}
 use Rattle.tree.specs.Pain008.{PmtInf}
 use Rattle.tree.specs.Parts as part
-use Rattle.bundle.specs.Bundle.{number}
 use Rattle.collections.specs.Listed.{Collection, Creditor}
 use Rattle.written.specs.Blocks.{more, several}
 use Rattle.written.specs.Written.{schemeWord, sequenceWord, bankTree, remittanceTree, transactionTree, noCollection, termsOf, batchTree, batchTrees, messageOf}

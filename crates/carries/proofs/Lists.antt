@@ -1,4 +1,4 @@
--- DEMAND 3, OF EVERY LIST that meets none of refusals 21 to 26.
+-- DEMAND 3, OF EVERY LIST that is judged good: it meets none of 21 to 25 and 51 to 58.
 --   list-carried       where no more batches are needed than the profile has, the written message carries the list's batches
 --   list-carries       then it is accepted and carries exactly the listed collections, with no batch above the ceiling
 --   list-checked       with tables long enough the check accepts it, with the needed batches, the listed collections and their cents

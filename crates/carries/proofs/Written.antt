@@ -13,7 +13,7 @@ use mathlib.Core.Path.{_≡_, refl, ap, ap₂, sym, subst, _∙_}
 use lib.Dec.{T}
 use lib.ListN.{length, length-map, length-append}
 use Rattle.laws.specs.Bytes.{Bytes}
-use Rattle.laws.specs.Lists.{All, concat, gather}
+use Rattle.laws.specs.Lists.{All, concat, gather, number}
 use Rattle.laws.specs.Sections.{lastOr}
 use Rattle.laws.proofs.Below.{each}
 use Rattle.laws.proofs.Sections.{length-all}
@@ -29,7 +29,6 @@ use Rattle.tree.specs.Pain008.{declaration}
 use Rattle.tree.specs.Parts as part
 use Rattle.promise.specs.Check.{saidBy}
 use Rattle.promise.specs.Demand2.{AllAgree, InProfile}
-use Rattle.bundle.specs.Bundle.{number}
 use Rattle.collections.specs.Listed.{Collection, Creditor}
 use Rattle.collections.specs.Good.{emptyOr, GoodTerms, GoodCollection, GoodCreditor}
 use Rattle.written.specs.Written.{schemeWord, sequenceWord, termsOf, messageOf}

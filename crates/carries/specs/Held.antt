@@ -8,13 +8,12 @@ use Prim.Native.Nat.{ℕ}
 use mathlib.Core.List.{List, [], _∷_, _++_}
 use lib.ListN.{length}
 use Rattle.laws.specs.Bytes.{Bytes, ascii}
-use Rattle.laws.specs.Lists.{concat, gather}
+use Rattle.laws.specs.Lists.{concat, gather, number}
 use Rattle.put.specs.Numerals.{decimal, euros, batchId}
 use Rattle.text.specs.declared.Rule.{Rule}
 use Rattle.text.specs.declared.Rule.the-variants.{Identifier, Name, Remittance, Count, Sum, Amount, Date, Time, Iban, Bic, CreditorIdentifier, Method, Booking, Sepa, Scheme, Sequence, Charges, NotProvided}
 use Rattle.tree.specs.declared.Kind.the-variants.{Holds, Text}
 use Rattle.tree.specs.Parts as part
-use Rattle.bundle.specs.Bundle.{number}
 use Rattle.collections.specs.Listed.{Collection, Creditor}
 use Rattle.written.specs.Written.{schemeWord, sequenceWord, termsOf}
 use Rattle.carries.specs.Contents.{Content, content, totalCents}

@@ -8,7 +8,7 @@ use native.Mathlib.Nat.{not-suc-le-zero, le-of-suc-le-suc}
 use native.Mathlib.Omega.{arith}
 use mathlib.Core.Bool.{Bool, true, false, _&&_}
 use mathlib.Core.List.{List, [], _∷_, _++_, map}
-use mathlib.Core.Path.{_≡_, refl, ap, sym, _∙_}
+use mathlib.Core.Path.{_≡_, refl, ap, sym, subst, _∙_}
 use lib.Dec.{T, leb, leb→le, eqb·suc-zero}
 use lib.ListN.{length, drop, getD}
 use Rattle.laws.specs.Bytes.{Bytes, between}
@@ -20,7 +20,7 @@ use Rattle.profile.specs.declared.Flaw.{Flaw}
 use Rattle.profile.specs.declared.Flaw.the-variants.{Number, Code}
 use Rattle.profile.specs.declared.ListRefusal.the-variants.{NotAFrame}
 use Rattle.text.specs.declared.Judged.{Judged}
-use Rattle.text.specs.declared.Judged.the-variants.{Good as Fine, Bad}
+use Rattle.text.specs.declared.Judged.the-variants.{Good as Fine}
 use Rattle.text.specs.declared.Rule.{Rule}
 use Rattle.text.specs.declared.Rule.the-variants.{Identifier, Remittance, Bic}
 use Rattle.text.specs.Rules.{must, good, judged}
@@ -32,10 +32,12 @@ use Rattle.frames.specs.Fields.{needed, optional, creditorFields, collectionFie
 use Rattle.frames.specs.Frames.{creditorFrame, collectionFrame, frameOf, framed, holds, texts, isFrame, leadOf, textsOf}
 use Rattle.frames.proofs.Cuts.{by-further}
 use Rattle.frames.proofs.Parts.{come-start}
+use Rattle.daylist.specs.declared.JudgedLine.the-variants.{Good as GoodLine}
 use Rattle.daylist.specs.declared.JudgedList.the-variants.{Good}
 use Rattle.daylist.specs.Lead.{highFirst, leadScheme, leadSequence, leadCents}
-use Rattle.daylist.specs.Values.{judgedLead, judgedTexts, judgedFields, firstBad, judgedLine, else}
+use Rattle.daylist.specs.Values.{judgedLead, judgedTexts, judgedFields, judgedLine}
 use Rattle.daylist.specs.Stages.{framesFrom, valuesFrom, judgedList}
+use Rattle.daylist.proofs.Breaks.{Sound, fields-good}
 use Rattle.daylist.proofs.Goods.{GoodList, good-list, must-good, of-good}
 use Rattle.collections.specs.Listed.{collectionOf, creditorOf, firstLine, creditor, listed}
 use Rattle.collections.specs.Good.{emptyOr, GoodTerms, GoodCollection, GoodCreditor}
@@ -60,22 +62,17 @@ cents-good s t =
     let b = held (between 1 mostCents n) Number (Fine n) t in
     (leb→le 1 n (and-l (leb 1 n) (leb n mostCents) b), leb→le n mostCents (and-r (leb 1 n) (leb n mostCents) b))
 
--- where the first that breaks its rule is none, each is good
-each-good : (j k : Judged) → T (good (else j k)) → T (good j) × T (good k)
-each-good (Fine n) k t = (tt, t)
-each-good (Bad f) k t = absurd t
-
 -- an optional field is empty or good by its rule
 optional-good : (r : Rule) (s : Bytes) → T (good (judgedField (optional r) s)) → T (emptyOr (judged r) s)
 optional-good r [] t = tt
 optional-good r (c ∷ s) t = rw (eqb·suc-zero (length s), judgedField) at t
 
 -- each text is good as its field
-texts-good : (d : Field) (fs : List Field) (ts : List Bytes) → length fs ≡ length ts → T (good (firstBad (judgedTexts fs ts))) → (i : ℕ) → i < length fs → T (good (judgedField (getD fs i d) (getD ts i [])))
+texts-good : (d : Field) (fs : List Field) (ts : List Bytes) → length fs ≡ length ts → All Sound (judgedTexts fs ts) → (i : ℕ) → i < length fs → Sound (judgedField (getD fs i d) (getD ts i []))
 texts-good d [] ts n t i h = absurd (not-suc-le-zero h)
 texts-good d (f ∷ fs) [] n t i h = absurd (omega arith)
-texts-good d (f ∷ fs) (u ∷ ts) n t zero h = each-good (judgedField f u) (firstBad (judgedTexts fs ts)) t .0
-texts-good d (f ∷ fs) (u ∷ ts) n t (suc i) h = texts-good d fs ts (omega arith) (each-good (judgedField f u) (firstBad (judgedTexts fs ts)) t .1) i (le-of-suc-le-suc h)
+texts-good d (f ∷ fs) (u ∷ ts) n t zero h = t .0
+texts-good d (f ∷ fs) (u ∷ ts) n t (suc i) h = texts-good d fs ts (omega arith) (t .1) i (le-of-suc-le-suc h)
 
 -- ─── frames ───
 
@@ -100,7 +97,7 @@ framed-line f l e =
 -- ─── lines ───
 
 -- the creditor line
-creditor-line : (s : Bytes) → framed creditorFrame s ≡ true → good (judgedLine 1 s) ≡ true → GoodCreditor (creditorOf s)
+creditor-line : (s : Bytes) → framed creditorFrame s ≡ true → judgedLine 1 s ≡ GoodLine → GoodCreditor (creditorOf s)
 creditor-line s f g = record {
   messageId = each 0 (omega arith);
   creationTime = each 1 (omega arith);
@@ -111,8 +108,8 @@ creditor-line s f g = record {
   identifier = each 6 (omega arith);
 }
   where
-    each : (i : ℕ) → i < 7 → T (good (judgedField (getD creditorFields i (needed Identifier)) (getD (textsOf creditorFrame s) i [])))
-    each = texts-good (needed Identifier) creditorFields (textsOf creditorFrame s) (framed-number creditorFrame s f) (true-T _ g)
+    each : (i : ℕ) → i < 7 → Sound (judgedField (getD creditorFields i (needed Identifier)) (getD (textsOf creditorFrame s) i []))
+    each = texts-good (needed Identifier) creditorFields (textsOf creditorFrame s) (framed-number creditorFrame s f) (fields-good 0 (judgedFields 1 s) g)
 
 -- a collection line: three fields, and then the texts
 abbrev leadFields : Bytes → List Judged
@@ -123,11 +120,11 @@ collection-fields n s d = ap (λ (f : Frame). judgedLead n (leadOf f s) ++ judge
     ∙ ap (λ (js : List Judged). js ++ judgedTexts (fieldsOf n) (textsOf collectionFrame s)) (by-further n [] (leadFields (leadOf collectionFrame s)) d)
     ∙ ap (λ (fs : List Field). leadFields (leadOf collectionFrame s) ++ judgedTexts fs (textsOf collectionFrame s)) (by-further n creditorFields collectionFields d)
 
-collection-line : (n : ℕ) (s : Bytes) → (n ≡ 1 → ⊥) → framed collectionFrame s ≡ true → good (judgedLine n s) ≡ true → GoodCollection (collectionOf s)
+collection-line : (n : ℕ) (s : Bytes) → (n ≡ 1 → ⊥) → framed collectionFrame s ≡ true → judgedLine n s ≡ GoodLine → GoodCollection (collectionOf s)
 collection-line n s d f g = record {
-  terms = record { scheme = scheme-good (getD lead 0 0) (a .0); sequence = sequence-good (getD lead 1 0) (b .0); date = each 0 (omega arith) };
-  least = cents-good (drop 2 lead) (e .0) .0;
-  most = cents-good (drop 2 lead) (e .0) .1;
+  terms = record { scheme = scheme-good (getD lead 0 0) (all .0); sequence = sequence-good (getD lead 1 0) (all .1 .0); date = each 0 (omega arith) };
+  least = cents-good (drop 2 lead) (all .1 .1 .0) .0;
+  most = cents-good (drop 2 lead) (all .1 .1 .0) .1;
   endToEnd = each 1 (omega arith);
   mandate = each 2 (omega arith);
   signatureDate = each 3 (omega arith);
@@ -140,23 +137,11 @@ collection-line n s d f g = record {
     lead : Bytes
     lead = leadOf collectionFrame s
 
-    rest : Judged
-    rest = firstBad (judgedTexts collectionFields (textsOf collectionFrame s))
+    all : All Sound (leadFields lead ++ judgedTexts collectionFields (textsOf collectionFrame s))
+    all = subst (λ (js : List Judged). All Sound js) (collection-fields n s d) (fields-good 0 (judgedFields n s) g)
 
-    all : T (good (else (leadScheme (getD lead 0 0)) (else (leadSequence (getD lead 1 0)) (else (leadCents (drop 2 lead)) rest))))
-    all = true-T _ (ap (λ (js : List Judged). good (firstBad js)) (sym (collection-fields n s d)) ∙ g)
-
-    a : T (good (leadScheme (getD lead 0 0))) × T (good (else (leadSequence (getD lead 1 0)) (else (leadCents (drop 2 lead)) rest)))
-    a = each-good (leadScheme (getD lead 0 0)) (else (leadSequence (getD lead 1 0)) (else (leadCents (drop 2 lead)) rest)) all
-
-    b : T (good (leadSequence (getD lead 1 0))) × T (good (else (leadCents (drop 2 lead)) rest))
-    b = each-good (leadSequence (getD lead 1 0)) (else (leadCents (drop 2 lead)) rest) (a .1)
-
-    e : T (good (leadCents (drop 2 lead))) × T (good rest)
-    e = each-good (leadCents (drop 2 lead)) rest (b .1)
-
-    each : (i : ℕ) → i < 8 → T (good (judgedField (getD collectionFields i (needed Identifier)) (getD (textsOf collectionFrame s) i [])))
-    each = texts-good (needed Identifier) collectionFields (textsOf collectionFrame s) (framed-number collectionFrame s f) (e .1)
+    each : (i : ℕ) → i < 8 → Sound (judgedField (getD collectionFields i (needed Identifier)) (getD (textsOf collectionFrame s) i []))
+    each = texts-good (needed Identifier) collectionFields (textsOf collectionFrame s) (framed-number collectionFrame s f) (all .1 .1 .1)
 
 -- ─── lists ───
 

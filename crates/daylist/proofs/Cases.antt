@@ -1,4 +1,4 @@
--- DAY LISTS, AND WHAT IS REPORTED OF EACH, computed: document 01's number and place of a refusal, and the flaw of a value.
+-- DAY LISTS, AND WHAT IS REPORTED OF EACH, computed: the number and place of a refusal, and the field of a value.
 --   dayList                 the list of the examples: a creditor and two collections, the lines `creditorLine`, `first` and `second`
 --   lineOf s, frame s ts    a line of the digits s, ended by LF; a line of the digits s and of the texts ts, each after its length byte
 --   in-words                the lines of the examples in words
@@ -7,7 +7,7 @@
 --   too-long, not-too-long, ceilings   21 and 22
 --   not-frames              23: a line that is no frame of its kind, or lacks LF
 --   few, many               24 and 25
---   leads, creditor-texts, collection-texts   26: each field of a line breaks its rule; some that obey it
+--   leads, creditor-texts, collection-texts, in-order   51 to 58: each field of a line breaks its rule; some that obey it; the first of several
 use Prim.Native.Nat.{ℕ, _/_, _%_, _≤_, _<_}
 use Prim.Native.String.{String}
 use mathlib.Core.List.{List, [], _∷_, _++_, map}
@@ -16,8 +16,7 @@ use lib.ListN.{length, getD, set, replicate}
 use borrow.Author.Tests.{le-leb, lt-leb}
 use Rattle.laws.specs.Bytes.{Bytes, ascii}
 use Rattle.laws.specs.Lists.{concat, gather}
-use Rattle.profile.specs.declared.Flaw.the-variants.{Length, Letter, Slash, Number, Date, Code, Shape, CheckDigits}
-use Rattle.profile.specs.Refusals.{Fault, fault, flawed, listFaultOf}
+use Rattle.profile.specs.Refusals.{Fault, fault, listFaultOf}
 use Rattle.daylist.specs.declared.JudgedList.{JudgedList}
 use Rattle.daylist.specs.declared.JudgedList.the-variants.{Good, Refused}
 use Rattle.daylist.specs.Stages.{judgedList}
@@ -72,6 +71,10 @@ abbrev told : JudgedList → Fault
 told (Good n) = fault 0 n
 told (Refused r) = listFaultOf r
 
+-- a value: its number, its line and its field
+abbrev value : ℕ → ℕ → ℕ → Fault
+value n line i = record { number = n; place = line; field = i }
+
 -- at the ceiling 1
 abbrev toldOf : List Bytes → Fault
 toldOf ls = told (judgedList (concat ls) 1)
@@ -88,9 +91,9 @@ bareCreditor = lineOf "0100000000000000"
 abbrev bare : Bytes
 bare = lineOf "02000000000000000000000000000000"
 
--- 23 before 26, 24 before 26
+-- 23 and 24 before the values
 earlier-first : Told (
-    (bareCreditor ∷ bare ∷ lineOf "" ∷ [], fault 23 3) ∷ (bareCreditor ∷ [], fault 24 1) ∷ (bareCreditor ∷ bare ∷ [], flawed 26 Length 1) ∷ [])
+    (bareCreditor ∷ bare ∷ lineOf "" ∷ [], fault 23 3) ∷ (bareCreditor ∷ [], fault 24 1) ∷ (bareCreditor ∷ bare ∷ [], value 51 1 1) ∷ [])
 earlier-first = refl
 
 -- ─── 21 and 22 ───
@@ -127,15 +130,15 @@ not-frames = refl
 few : Told (([], fault 24 0) ∷ (creditorLine ∷ [], fault 24 1) ∷ (lineOf "01014A000000000000" ∷ [], fault 24 1) ∷ (creditorLine ∷ first ∷ [], fault 0 1) ∷ [])
 few = refl
 
--- 23 before 25 before 26
+-- 23 before 25 before the values
 many : Told (
-    (creditorLine ∷ replicate 1_000 bare, flawed 26 Number 2)
+    (creditorLine ∷ replicate 1_000 bare, value 54 2 3)
     ∷ (creditorLine ∷ replicate 1_001 bare, fault 25 1_002)
     ∷ (creditorLine ∷ lineOf "" ∷ replicate 1_001 bare, fault 23 2)
     ∷ [])
 many = refl
 
--- ─── 26 ───
+-- ─── 51 to 58 ───
 
 -- the example with these digits of kind, scheme, sequence and cents in line 3
 abbrev ledBy : String → List Bytes
@@ -143,13 +146,13 @@ ledBy s = creditorLine ∷ first ∷ frame s firstTexts ∷ []
 
 leads : Told (
     (ledBy "0201010000000001", fault 0 2)
-    ∷ (ledBy "0202010000000001", flawed 26 Code 3)  -- scheme 2
+    ∷ (ledBy "0202010000000001", value 56 3 1)  -- scheme 2
     ∷ (ledBy "0200030000000001", fault 0 2)
-    ∷ (ledBy "0200040000000001", flawed 26 Code 3)  -- sequence 4
-    ∷ (ledBy "0200010000000000", flawed 26 Number 3)  -- no cents
+    ∷ (ledBy "0200040000000001", value 56 3 2)  -- sequence 4
+    ∷ (ledBy "0200010000000000", value 54 3 3)  -- no cents
     ∷ (ledBy "020001174876E7FF", fault 0 2)
-    ∷ (ledBy "020001174876E800", flawed 26 Number 3)  -- a cent too many (★12)
-    ∷ (ledBy "0200040000000000", flawed 26 Code 3)  -- the first of two
+    ∷ (ledBy "020001174876E800", value 54 3 3)  -- a cent too many (★12)
+    ∷ (ledBy "0200040000000000", value 56 3 2)  -- the first of two
     ∷ [])
 leads = refl
 
@@ -161,34 +164,46 @@ abbrev firstBut : ℕ → String → List Bytes
 firstBut i s = creditorLine ∷ frame "020001000001ADB7" (set firstTexts i s) ∷ []
 
 creditor-texts : Told (
-    (creditorBut 0 "/A", flawed 26 Slash 1)
-    ∷ (creditorBut 1 "2026-11-02", flawed 26 Date 1)
-    ∷ (creditorBut 2 "", flawed 26 Length 1)
+    (creditorBut 0 "/A", value 53 1 1)
+    ∷ (creditorBut 1 "2026-11-02", value 55 1 2)
+    ∷ (creditorBut 2 "", value 51 1 3)
     ∷ (creditorBut 2 "//", fault 0 1)
-    ∷ (creditorBut 3 "_", flawed 26 Letter 1)
+    ∷ (creditorBut 3 "_", value 52 1 4)
     ∷ (creditorBut 3 "//", fault 0 1)
-    ∷ (creditorBut 4 "", flawed 26 Shape 1)
-    ∷ (creditorBut 4 "BE86539007547034", flawed 26 CheckDigits 1)
+    ∷ (creditorBut 4 "", value 57 1 5)
+    ∷ (creditorBut 4 "BE86539007547034", value 58 1 5)
     ∷ (creditorBut 5 "", fault 0 1)  -- NOTPROVIDED
-    ∷ (creditorBut 5 "NOTPROVIDED", flawed 26 Shape 1)
-    ∷ (creditorBut 6 "", flawed 26 Shape 1)
-    ∷ (creditorBut 6 "BE69ZZZd", flawed 26 Shape 1)
+    ∷ (creditorBut 5 "NOTPROVIDED", value 57 1 6)
+    ∷ (creditorBut 6 "", value 57 1 7)
+    ∷ (creditorBut 6 "BE69ZZZd", value 57 1 7)
     ∷ [])
 creditor-texts = refl
 
 collection-texts : Told (
-    (firstBut 0 "2026-02-30", flawed 26 Date 2)
-    ∷ (firstBut 1 "/A", flawed 26 Slash 2)
-    ∷ (firstBut 2 "A//B", flawed 26 Slash 2)
-    ∷ (firstBut 3 "", flawed 26 Date 2)
+    (firstBut 0 "2026-02-30", value 55 2 4)
+    ∷ (firstBut 1 "/A", value 53 2 5)
+    ∷ (firstBut 2 "A//B", value 53 2 6)
+    ∷ (firstBut 3 "", value 55 2 7)
     ∷ (firstBut 4 "BANKGB2L", fault 0 1)
-    ∷ (firstBut 4 "NOTPROVIDED", flawed 26 Shape 2)
-    ∷ (firstBut 5 "", flawed 26 Length 2)
+    ∷ (firstBut 4 "NOTPROVIDED", value 57 2 8)
+    ∷ (firstBut 5 "", value 51 2 9)
     ∷ (firstBut 5 "//", fault 0 1)
-    ∷ (firstBut 6 "", flawed 26 Shape 2)
-    ∷ (firstBut 6 "GB92NWBK60161331926819", flawed 26 CheckDigits 2)
+    ∷ (firstBut 6 "", value 57 2 10)
+    ∷ (firstBut 6 "GB92NWBK60161331926819", value 58 2 10)
     ∷ (firstBut 7 "", fault 0 1)  -- no remittance
-    ∷ (firstBut 7 "_", flawed 26 Letter 2)
+    ∷ (firstBut 7 "_", value 52 2 11)
     ∷ (firstBut 7 "12345678901234567890123456789012345678901234567890123456789012345678901", fault 0 1)  -- longer than a name
     ∷ [])
 collection-texts = refl
+
+-- within a text length, then letters, then slashes; a shape before its check digits; within a line the first field; of two lines the first
+in-order : Told (
+    (creditorBut 3 "1234567890123456789012345678901234567890123456789012345678901234567890_", value 51 1 4)
+    ∷ (firstBut 1 "/234567890123456789012345678901234_", value 52 2 5)
+    ∷ (firstBut 1 "/234567890123456789012345678901234/", value 53 2 5)
+    ∷ (firstBut 6 "GB92NWBK6016133192681_", value 57 2 10)
+    ∷ (frame "01" ("/a" ∷ replicate 6 "") ∷ first ∷ [], value 53 1 1)
+    ∷ (creditorLine ∷ frame "020001000001ADB7" (set (set firstTexts 5 "") 2 "A//B") ∷ [], value 53 2 6)
+    ∷ (creditorLine ∷ first ∷ frame "020201000001ADB7" (set firstTexts 0 "") ∷ frame "020001000001ADB7" (set firstTexts 1 "") ∷ [], value 56 3 1)
+    ∷ [])
+in-order = refl

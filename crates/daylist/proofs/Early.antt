@@ -1,44 +1,38 @@
--- A LIST AS IT IS JUDGED IS REFUSED WITH 21 TO 26 ALONE: 27 and 28 are the writer's.
---   list-number   the number of any refusal of a list is one of 21 to 28
---   list-early    that of a list that is judged is one of 21 to 26
-use Prim.Native.Nat.{ℕ, _+_, _≤_}
+-- A LIST AS IT IS JUDGED IS REFUSED WITH 21 TO 25 AND 51 TO 58 ALONE: 27 and 28 are the writer's.
+--   Early j       the number of the refusal, where j is one, is among them
+--   list-early    that of a list that is judged is
+use Prim.Native.Nat.{ℕ, _+_}
 use native.Mathlib.Omega.{arith}
 use mathlib.Core.Bool.{Bool, true, false}
 use mathlib.Core.List.{List, [], _∷_}
+use mathlib.Core.Logic.{inl, inr}
 use lib.Dec.{leb}
 use lib.ListN.{length}
 use Rattle.laws.specs.Bytes.{Bytes, between}
 use Rattle.profile.specs.Limits.{mostBytes, mostCeiling, mostCollections}
 use Rattle.profile.specs.Refusals.{listNumberOf}
+use Rattle.profile.specs.Numbers.{Between, JudgedNumber}
+use Rattle.profile.proofs.Faults.{flaw-number}
 use Rattle.profile.specs.declared.ListRefusal.{ListRefusal}
-use Rattle.profile.specs.declared.ListRefusal.the-variants.{TooLong, Ceiling, NotAFrame, NoCollection, TooManyCollections, Value, TooManyBatches, OutputTooShort}
-use Rattle.text.specs.declared.Judged.{Judged}
-use Rattle.text.specs.declared.Judged.the-variants.{Good as Fine, Bad}
+use Rattle.profile.specs.declared.ListRefusal.the-variants.{TooLong, Ceiling, NotAFrame, NoCollection, TooManyCollections}
 use Rattle.frames.specs.Lines.{Line, lines}
 use Rattle.frames.specs.Hex.{unhex}
 use Rattle.frames.specs.Frames.{frameOf, isFrame}
+use Rattle.daylist.specs.declared.JudgedLine.{JudgedLine}
+use Rattle.daylist.specs.declared.JudgedLine.the-variants.{Good as Fine, Bad}
 use Rattle.daylist.specs.declared.JudgedList.{JudgedList}
 use Rattle.daylist.specs.declared.JudgedList.the-variants.{Good, Refused}
 use Rattle.daylist.specs.Values.{judgedLine}
 use Rattle.daylist.specs.Stages.{must, next, framesFrom, ofLine, valuesFrom, collectionsOf, judgedLines, judgedList}
 
-pub list-number : (r : ListRefusal) → (21 ≤ listNumberOf r) × (listNumberOf r ≤ 28)
-list-number TooLong = (omega arith, omega arith)
-list-number Ceiling = (omega arith, omega arith)
-list-number (NotAFrame line) = (omega arith, omega arith)
-list-number (NoCollection lines) = (omega arith, omega arith)
-list-number TooManyCollections = (omega arith, omega arith)
-list-number (Value f line) = (omega arith, omega arith)
-list-number (TooManyBatches n) = (omega arith, omega arith)
-list-number (OutputTooShort n) = (omega arith, omega arith)
-
 abbrev pub Early : JudgedList → Type 0
 Early (Good n) = Unit {0}
-Early (Refused r) = listNumberOf r ≤ 26
+Early (Refused r) = JudgedNumber (listNumberOf r)
 
-must-early : (b : Bool) (r : ListRefusal) (j : JudgedList) → listNumberOf r ≤ 26 → Early j → Early (must b r j)
+-- the refusals before the values are 21 to 25
+must-early : (b : Bool) (r : ListRefusal) (j : JudgedList) → Between 21 25 (listNumberOf r) → Early j → Early (must b r j)
 must-early true r j h e = e
-must-early false r j h e = h
+must-early false r j h e = inl h
 
 next-early : (i j : JudgedList) → Early i → Early j → Early (next i j)
 next-early (Good n) j a b = b
@@ -46,11 +40,11 @@ next-early (Refused r) j a b = a
 
 frames-early : (k : ℕ) (ls : List Line) → Early (framesFrom k ls)
 frames-early k [] = tt
-frames-early k (l ∷ ls) = must-early (isFrame (frameOf (k + 1)) l) (NotAFrame (k + 1)) (framesFrom (k + 1) ls) (omega arith) (frames-early (k + 1) ls)
+frames-early k (l ∷ ls) = must-early (isFrame (frameOf (k + 1)) l) (NotAFrame (k + 1)) (framesFrom (k + 1) ls) (omega arith, omega arith) (frames-early (k + 1) ls)
 
-of-early : (x : Judged) (k : ℕ) (j : JudgedList) → Early j → Early (ofLine x k j)
-of-early (Fine n) k j e = e
-of-early (Bad f) k j e = omega arith
+of-early : (x : JudgedLine) (k : ℕ) (j : JudgedList) → Early j → Early (ofLine x k j)
+of-early Fine k j e = e
+of-early (Bad f i) k j e = inr (flaw-number f)
 
 values-early : (k : ℕ) (ls : List Line) → Early (valuesFrom k ls)
 values-early k [] = tt
@@ -59,7 +53,7 @@ values-early k (l ∷ ls) = of-early (judgedLine (k + 1) (unhex (l .bytes))) (k 
 collections-early : (n : ℕ) (j : JudgedList) → Early j → Early (collectionsOf n j)
 collections-early n j e =
     let few : JudgedList = must (leb n (1 + mostCollections)) TooManyCollections j in
-    must-early (leb 2 n) (NoCollection n) few (omega arith) (must-early (leb n (1 + mostCollections)) TooManyCollections j (omega arith) e)
+    must-early (leb 2 n) (NoCollection n) few (omega arith, omega arith) (must-early (leb n (1 + mostCollections)) TooManyCollections j (omega arith, omega arith) e)
 
 lines-early : (ls : List Line) → Early (judgedLines ls)
 lines-early ls =
@@ -69,4 +63,4 @@ lines-early ls =
 pub list-early : (s : Bytes) (c : ℕ) → Early (judgedList s c)
 list-early s c =
     let j : JudgedList = judgedLines (lines s) in
-    must-early (leb (length s) mostBytes) TooLong (must (between 1 mostCeiling c) Ceiling j) (omega arith) (must-early (between 1 mostCeiling c) Ceiling j (omega arith) (lines-early (lines s)))
+    must-early (leb (length s) mostBytes) TooLong (must (between 1 mostCeiling c) Ceiling j) (omega arith, omega arith) (must-early (between 1 mostCeiling c) Ceiling j (omega arith, omega arith) (lines-early (lines s)))

@@ -1,7 +1,7 @@
 -- WHAT A GOOD LIST IS, for whoever reads one that was judged good.
 --   must-good, next-good   where good comes out, the test held, the stage found no fault, and what was left to the rest is good
 --   of-good                and the line was good
---   good-list              a good list of n collections is within the limits, has n + 1 lines, and neither 23 nor 26 finds a fault
+--   good-list              a good list of n collections is within the limits, has n + 1 lines, and neither 23 nor 51 to 58 find a fault
 --   good-lent              what it lends to be labelled: the front of a table of starts, and of the labels
 --   frames-each            then each line holds the frame of its kind, and LF ends it
 --   values-each            and each line's values are good
@@ -20,12 +20,11 @@ use Rattle.laws.proofs.Tests.{and-l, and-r, T-true, true-T}
 use Rattle.profile.specs.Limits.{mostBytes, mostCeiling, mostCollections}
 use Rattle.profile.specs.declared.ListRefusal.{ListRefusal}
 use Rattle.profile.specs.declared.ListRefusal.the-variants.{TooLong, Ceiling, NotAFrame, NoCollection, TooManyCollections}
-use Rattle.text.specs.declared.Judged.{Judged}
-use Rattle.text.specs.declared.Judged.the-variants.{Good as Fine, Bad}
-use Rattle.text.specs.Rules.{good}
 use Rattle.frames.specs.Lines.{Line, lines}
 use Rattle.frames.specs.Hex.{unhex}
 use Rattle.frames.specs.Frames.{frameOf, isFrame}
+use Rattle.daylist.specs.declared.JudgedLine.{JudgedLine}
+use Rattle.daylist.specs.declared.JudgedLine.the-variants.{Good as Fine, Bad}
 use Rattle.daylist.specs.declared.JudgedList.{JudgedList}
 use Rattle.daylist.specs.declared.JudgedList.the-variants.{Good, Refused}
 use Rattle.daylist.specs.Values.{judgedLine}
@@ -92,9 +91,9 @@ pub good-lent : (s : Bytes) (c n : ℕ) (t l : List ℕ) → judgedList s c ≡ 
     → (judgedList s c ≡ Good (length (take n l))) × (length (take (n + 1) t) ≡ length (take n l) + 1)
 good-lent s c n t l e h k = rw (length-take-le n l h, length-take-le (n + 1) t k) (e, refl)
 
-pub of-good : (j : Judged) (k n : ℕ) (r : JudgedList) → ofLine j k r ≡ Good n → (good j ≡ true) × (r ≡ Good n)
-of-good (Fine m) k n r e = (refl, e)
-of-good (Bad f) k n r e = let z : _≡_ {A = ℕ} 0 1 = cc in absurd (omega (arith, z))
+pub of-good : (l : JudgedLine) (k n : ℕ) (r : JudgedList) → ofLine l k r ≡ Good n → (l ≡ Fine) × (r ≡ Good n)
+of-good Fine k n r e = (refl, e)
+of-good (Bad f i) k n r e = let z : _≡_ {A = ℕ} 0 1 = cc in absurd (omega (arith, z))
 
 module _ (d : Line) where
   pub frames-each : (k n : ℕ) (ls : List Line) → framesFrom k ls ≡ Good n → (i : ℕ) → i < length ls → isFrame (frameOf (k + i + 1)) (getD ls i d) ≡ true
@@ -106,7 +105,7 @@ module _ (d : Line) where
       let z : k + suc i + 1 ≡ k + 1 + i + 1 = omega arith in
       rw z (frames-each (k + 1) n ls (must-good (isFrame (frameOf (k + 1)) l) (NotAFrame (k + 1)) (framesFrom (k + 1) ls) n e .1) i (le-of-suc-le-suc h))
 
-  pub values-each : (k n : ℕ) (ls : List Line) → valuesFrom k ls ≡ Good n → (i : ℕ) → i < length ls → good (judgedLine (k + i + 1) (unhex ((getD ls i d) .bytes))) ≡ true
+  pub values-each : (k n : ℕ) (ls : List Line) → valuesFrom k ls ≡ Good n → (i : ℕ) → i < length ls → judgedLine (k + i + 1) (unhex ((getD ls i d) .bytes)) ≡ Fine
   values-each k n [] e i h = absurd (not-suc-le-zero h)
   values-each k n (l ∷ ls) e zero h =
       let z : k + 0 + 1 ≡ k + 1 = omega arith in

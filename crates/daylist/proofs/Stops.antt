@@ -2,11 +2,11 @@
 --   frames-lacks, frames-not             23 finds a fault: the line lacks LF, or is not hexadecimal and a frame of its kind
 --   frames-go, frames-end                the line is a frame; there is none
 --   frames-count                         where each line is a frame, their number is the answer
---   values-bad, values-go, values-end    26 finds a fault, or not; there is no line
+--   values-bad, values-go, values-end    51 to 58 find a fault, or not; there is no line
 --   list-long                            21
 --   list-ceiling-low, list-ceiling-high  22
 --   list-lines                           what is left to the lines
---   lines-refused, lines-few, lines-many, lines-bad, lines-good   23, 24, 25 and 26 find a fault, or none does
+--   lines-refused, lines-few, lines-many, lines-bad, lines-good   23, 24, 25 and 51 to 58 find a fault, or none does
 use Prim.Native.Nat.{ℕ, suc, _+_, _-_, _<_, _≤_}
 use native.Mathlib.Decide.{decLt}
 use native.Mathlib.Omega.{arith}
@@ -21,7 +21,7 @@ use Rattle.profile.specs.Limits.{mostBytes, mostCeiling, mostCollections}
 use Rattle.profile.specs.declared.Flaw.{Flaw}
 use Rattle.profile.specs.declared.ListRefusal.{ListRefusal}
 use Rattle.profile.specs.declared.ListRefusal.the-variants.{TooLong, Ceiling, NotAFrame, NoCollection, TooManyCollections, Value}
-use Rattle.text.specs.declared.Judged.the-variants.{Good as Fine, Bad}
+use Rattle.daylist.specs.declared.JudgedLine.the-variants.{Good as Fine, Bad}
 use Rattle.daylist.specs.declared.JudgedList.the-variants.{Good, Refused}
 use Rattle.frames.specs.Lines.{Line, notEnd, lines}
 use Rattle.frames.specs.Hex.{hex, unhex}
@@ -51,11 +51,11 @@ module _ (s : Bytes) (at end : ℕ) (e : end ≡ at + span notEnd (drop at s)) w
         go (yes l) = rw (next-there s at end e l)
         go (no l) = rw (last-there s at end e h (omega (arith, e, span-le notEnd (drop at s), length-drop at s)), drop-of-length-le s {i = end + 1} (omega arith))
 
-    pub values-bad : (f : Flaw) → at < length s → judgedLine (k + 1) (unhex (take (end - at) (drop at s))) ≡ Bad f → Refused (Value f (k + 1)) ≡ valuesFrom k (lines (drop at s))
-    values-bad f h b = sym (values-line h ∙ ap (λ j. ofLine j (k + 1) (valuesFrom (k + 1) (lines (drop (end + 1) s)))) b)
+    pub values-bad : (f : Flaw) (i : ℕ) → at < length s → judgedLine (k + 1) (unhex (take (end - at) (drop at s))) ≡ Bad f i → Refused (Value f (k + 1) i) ≡ valuesFrom k (lines (drop at s))
+    values-bad f i h b = sym (values-line h ∙ ap (λ j. ofLine j (k + 1) (valuesFrom (k + 1) (lines (drop (end + 1) s)))) b)
 
-    pub values-go : (m : ℕ) → at < length s → judgedLine (k + 1) (unhex (take (end - at) (drop at s))) ≡ Fine m → valuesFrom k (lines (drop at s)) ≡ valuesFrom (k + 1) (lines (drop (end + 1) s))
-    values-go m h b = values-line h ∙ ap (λ j. ofLine j (k + 1) (valuesFrom (k + 1) (lines (drop (end + 1) s)))) b
+    pub values-go : at < length s → judgedLine (k + 1) (unhex (take (end - at) (drop at s))) ≡ Fine → valuesFrom k (lines (drop at s)) ≡ valuesFrom (k + 1) (lines (drop (end + 1) s))
+    values-go h b = values-line h ∙ ap (λ j. ofLine j (k + 1) (valuesFrom (k + 1) (lines (drop (end + 1) s)))) b
 
 module _ (s : Bytes) (at k : ℕ) where
   pub frames-end : length s ≤ at → Good k ≡ framesFrom k (lines (drop at s))

@@ -1,8 +1,8 @@
--- STAGES 21 TO 26, in order, each over the whole list. To be believed; definitions only. The numbers and places of the refusals are profile's `listNumberOf` and `listPlaceOf`.
+-- THE STAGES OF A LIST, 21 to 25 and 51 to 58, in order, each over the whole list. To be believed; definitions only. The numbers, places and fields of the refusals are profile's `listFaultOf`.
 --   must b r j            where the test b fails, refused with r; else j
 --   framesFrom k ls       23: the first line that is not a frame of its kind, or lacks LF; k lines stand before ls. Good: the number of lines
---   valuesFrom k ls       26: the first line of which a value breaks its rule. Good: the number of lines
---   judgedList s c        THE LIST s at the ceiling c: the first refusal of 21 to 26, or good, with the number of its collections
+--   valuesFrom k ls       51 to 58: the first line of which a value breaks its rule, and its first such field. Good: the number of lines
+--   judgedList s c        THE LIST s at the ceiling c: the first refusal of 21 to 25 and 51 to 58, or good, with the number of its collections
 use Prim.Native.Nat.{ℕ, _+_, _-_}
 use mathlib.Core.Bool.{Bool, true, false}
 use mathlib.Core.List.{List, [], _∷_}
@@ -12,8 +12,8 @@ use Rattle.laws.specs.Bytes.{Bytes, between}
 use Rattle.profile.specs.Limits.{mostBytes, mostCeiling, mostCollections}
 use Rattle.profile.specs.declared.ListRefusal.{ListRefusal}
 use Rattle.profile.specs.declared.ListRefusal.the-variants.{TooLong, Ceiling, NotAFrame, NoCollection, TooManyCollections, Value}
-use Rattle.text.specs.declared.Judged.{Judged}
-use Rattle.text.specs.declared.Judged.the-variants.{Good as Fine, Bad}
+use Rattle.daylist.specs.declared.JudgedLine.{JudgedLine}
+use Rattle.daylist.specs.declared.JudgedLine.the-variants.{Good as Fine, Bad}
 use Rattle.daylist.specs.declared.JudgedList.{JudgedList}
 use Rattle.daylist.specs.declared.JudgedList.the-variants.{Good, Refused}
 use Rattle.frames.specs.Lines.{Line, lines}
@@ -35,10 +35,10 @@ abbrev pub framesFrom : ℕ → List Line → JudgedList
 framesFrom k [] = Good k
 framesFrom k (l ∷ ls) = must (isFrame (frameOf (k + 1)) l) (NotAFrame (k + 1)) (framesFrom (k + 1) ls)
 
--- 26
-abbrev pub ofLine : Judged → ℕ → JudgedList → JudgedList
-ofLine (Fine n) k j = j
-ofLine (Bad f) k j = Refused (Value f k)
+-- 51 to 58
+abbrev pub ofLine : JudgedLine → ℕ → JudgedList → JudgedList
+ofLine Fine k j = j
+ofLine (Bad f i) k j = Refused (Value f k i)
 
 abbrev pub valuesFrom : ℕ → List Line → JudgedList
 valuesFrom k [] = Good k

@@ -1,8 +1,8 @@
-// The day list: the values of its lines, and the refusals 21 to 26. Any bytes are judged, at any ceiling.
+// The day list: the values of its lines, and the refusals 21 to 25 and 51 to 58. Any bytes are judged, at any ceiling.
 //
 //   lines    where the lines of a list end
 //   values   the values of a line, field by field
-//   stages   the stages that go over all lines: refusals 23 and 26
+//   stages   the stages that go over all lines: refusals 23, and 51 to 58
 ghost use mathlib.Core.Path.{_≡_};
 ghost use Rattle.daylist.specs.Stages.{judgedList};
 use profile::ListRefusal;
@@ -11,13 +11,19 @@ pub mod lines;
 pub mod stages;
 pub mod values;
 
+// What a line is judged: good, or the flaw of its first field that breaks its rule, and the number of that field, from 1.
+pub enum JudgedLine {
+    Good,
+    Bad(profile::Flaw, usize),
+}
+
 // What a list is judged: good, with the number of its collections, or refused.
 pub enum JudgedList {
     Good(usize),
     Refused(profile::ListRefusal),
 }
 
-// The list judged, stages 21 to 26 in order: refused with the first of them that finds a fault, or good, with the number of its collections.
+// The list judged, its stages in order: refused with the first of them that finds a fault, or good, with the number of its collections.
 pub fn judge_list(list: &[u8], ceiling: u64) -> JudgedList
     ensures { λ r. ⌜ r ≡ judgedList (now (list .entry)) ceiling ⌝ }
 {

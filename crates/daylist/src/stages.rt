@@ -8,11 +8,11 @@ ghost use Rattle.frames.specs.Lines.{lines};
 ghost use Rattle.frames.specs.Hex.{hex, unhex};
 ghost use Rattle.frames.specs.Frames.{frameOf, framed};
 ghost use Rattle.daylist.specs.Stages.{framesFrom, valuesFrom};
+use crate::JudgedLine;
 use crate::JudgedList;
 use crate::lines;
 use crate::values;
 use profile::ListRefusal;
-use text::Judged;
 
 // Whether the bytes of line `number` are hexadecimal, and a frame of its kind.
 fn holds_frame(line: &[u8], number: usize) -> bool
@@ -44,7 +44,7 @@ pub fn judge_frames(list: &[u8]) -> JudgedList
     JudgedList::Good(done)
 }
 
-// Stage 26: the first line of which a value breaks its rule. Good gives the number of lines.
+// Stage 51 to 58: the first line of which a value breaks its rule. Good gives the number of lines.
 pub fn judge_values(list: &[u8]) -> JudgedList
     requires { ⌜ length (now list) ≤ mostBytes ⌝ }
     ensures { λ r. ⌜ r ≡ valuesFrom 0 (lines (now (list .entry))) ⌝ }
@@ -53,8 +53,8 @@ pub fn judge_values(list: &[u8]) -> JudgedList
     let mut at = 0;
     while at < list.len() {
         let end = lines::line_end(list, at);
-        if let Judged::Bad(flaw) = values::judge_line(&list[at..end], done + 1) {
-            return JudgedList::Refused(ListRefusal::Value(flaw, done + 1));
+        if let JudgedLine::Bad(flaw, field) = values::judge_line(&list[at..end], done + 1) {
+            return JudgedList::Refused(ListRefusal::Value(flaw, done + 1, field));
         }
         done += 1;
         at = end + 1;

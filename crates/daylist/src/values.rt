@@ -4,10 +4,11 @@ ghost use Prim.Native.Nat.{_+_, _≤_, _<_};
 ghost use lib.ListN.{length, take, drop, getD};
 ghost use Rattle.frames.specs.Hex.{unhex};
 ghost use Rattle.daylist.specs.Lead.{highFirst};
-ghost use Rattle.frames.specs.Fields.{needed, optional, creditorFields, collectionFields, fieldsOf, judgedField};
+ghost use Rattle.frames.specs.Fields.{byLine, needed, optional, creditorFields, collectionFields, fieldsOf, judgedField};
 ghost use Rattle.frames.specs.Frames.{frameOf, leadOf, texts};
 ghost use Rattle.daylist.specs.Values.{judgedLead, judgedTexts, firstBad, judgedLine};
 ghost use Rattle.text.specs.declared.Rule.the-variants.{Identifier, Remittance, CreditorIdentifier};
+use crate::JudgedLine;
 use frames::Field;
 use frames::hex;
 use profile::Flaw;
@@ -15,6 +16,16 @@ use text::Judged;
 use text::Rule;
 
 // ─── the fields before the texts ───
+
+// How many fields of line `number` stand before its texts.
+fn lead_fields(number: usize) -> usize
+    ensures { λ r. ⌜ r ≡ byLine number 0 3 ⌝ }
+{
+    if number == 1 {
+        return 0;
+    }
+    3
+}
 
 // The number that the `count` bytes from `from` on are, high first.
 pub fn high_first(line: &[u8], from: usize, count: usize) -> u64
@@ -32,26 +43,26 @@ pub fn high_first(line: &[u8], from: usize, count: usize) -> u64
 }
 
 // Scheme 0 or 1, sequence 0 to 3, cents 1 to 99,999,999,999. A creditor line has no such fields.
-fn judge_lead(line: &[u8], number: usize) -> Judged
-    ensures { λ r. ⌜ r ≡ firstBad (judgedLead number (leadOf (frameOf number) (unhex (now (line .entry))))) ⌝ }
+fn judge_lead(line: &[u8], number: usize) -> JudgedLine
+    ensures { λ r. ⌜ r ≡ firstBad 0 (judgedLead number (leadOf (frameOf number) (unhex (now (line .entry))))) ⌝ }
 {
     if number == 1 {
-        return Judged::Good(0);
+        return JudgedLine::Good;
     }
     if 1 < hex::byte_at(line, 1) {
-        return Judged::Bad(Flaw::Code);
+        return JudgedLine::Bad(Flaw::Code, 1);
     }
     if 3 < hex::byte_at(line, 2) {
-        return Judged::Bad(Flaw::Code);
+        return JudgedLine::Bad(Flaw::Code, 2);
     }
     let cents = high_first(line, 3, 5);
     if cents < 1 {
-        return Judged::Bad(Flaw::Number);
+        return JudgedLine::Bad(Flaw::Number, 3);
     }
     if profile::Profile::CENTS < cents {
-        return Judged::Bad(Flaw::Number);
+        return JudgedLine::Bad(Flaw::Number, 3);
     }
-    Judged::Good(0)
+    JudgedLine::Good
 }
 
 // ─── the texts ───
@@ -149,9 +160,10 @@ fn field_of(number: usize, i: usize) -> Field
     collection_field(i)
 }
 
-// The texts from a place on, judged as the fields of line `number`.
-fn judge_texts(line: &[u8], number: usize, from: usize) -> Judged
-    ensures { λ r. ⌜ r ≡ firstBad (judgedTexts (fieldsOf number) (texts (length (fieldsOf number)) (drop from (unhex (now (line .entry)))))) ⌝ }
+// The texts from a place on, judged as the fields of line `number`, of which `before` stand before the texts.
+fn judge_texts(line: &[u8], number: usize, from: usize, before: usize) -> JudgedLine
+    requires { ⌜ before ≤ 3 ⌝ }
+    ensures { λ r. ⌜ r ≡ firstBad before (judgedTexts (fieldsOf number) (texts (length (fieldsOf number)) (drop from (unhex (now (line .entry)))))) ⌝ }
 {
     let end = line.len() / 2;
     let frame = frames::frame_of(number);
@@ -160,31 +172,31 @@ fn judge_texts(line: &[u8], number: usize, from: usize) -> Judged
     let mut i = 0;
     while i < texts {
         if end <= at {
-            return Judged::Good(0);
+            return JudgedLine::Good;
         }
         let length = hex::byte_at(line, at) as usize;
         at += 1;
         let size = frames::least(length, end - at);
         let field = field_of(number, i);
         if let Judged::Bad(flaw) = judge_part(line, at, size, field) {
-            return Judged::Bad(flaw);
+            return JudgedLine::Bad(flaw, before + i + 1);
         }
         at += size;
         i += 1;
     }
-    Judged::Good(0)
+    JudgedLine::Good
 }
 
 // ─── a line ───
 
-// The flaw of the first field of line `number` that breaks its rule.
-pub fn judge_line(line: &[u8], number: usize) -> Judged
+// The first field of line `number` that breaks its rule.
+pub fn judge_line(line: &[u8], number: usize) -> JudgedLine
     ensures { λ r. ⌜ r ≡ judgedLine number (unhex (now (line .entry))) ⌝ }
 {
-    if let Judged::Bad(flaw) = judge_lead(line, number) {
-        return Judged::Bad(flaw);
+    if let JudgedLine::Bad(flaw, field) = judge_lead(line, number) {
+        return JudgedLine::Bad(flaw, field);
     }
     let frame = frames::frame_of(number);
     let lead = frame.lead;
-    judge_texts(line, number, 1 + lead)
+    judge_texts(line, number, 1 + lead, lead_fields(number))
 }

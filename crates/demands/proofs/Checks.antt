@@ -1,9 +1,8 @@
 -- DEMANDS 1 AND 2, OF EVERY OUTCOME OF THE CHECK: its verdict in numbers, and both tables.
 --   rows-tell   the rows of a table say what each batch declares, and where it declares nothing
---   numbers, keeps, exactly, of-message, belongs, answers, absent   the sentences of the demands
+--   numbers, keeps, exactly, of-message, belongs, answers, absent, texts   the sentences of the demands
 use Prim.Native.Nat.{ℕ, _+_, _*_, _≤_}
 use native.Mathlib.Omega.{arith}
-use native.Mathlib.Decide.{decLe}
 use mathlib.Core.List.{List, [], _∷_, _++_, append-assoc}
 use mathlib.Core.Logic.{_⊎_, inl, inr, _↔_}
 use mathlib.Core.Option.{Option, none, some}
@@ -12,7 +11,10 @@ use lib.ListN.{length, take, drop, getD}
 use Rattle.laws.specs.Bytes.{Bytes}
 use Rattle.laws.specs.Put.{putAt}
 use Rattle.profile.specs.Limits.{mostBytes}
-use Rattle.profile.specs.Refusals.{Fault}
+use Rattle.profile.specs.declared.Flaw.{Flaw}
+use Rattle.profile.specs.Refusals.{Fault, flawNumber}
+use Rattle.profile.specs.Numbers.{BeforeTotals, CheckNumber}
+use Rattle.profile.proofs.Faults.{flaw-number}
 use Rattle.profile.specs.declared.Totals.{Totals}
 use Rattle.tree.specs.Form.{Message, message}
 use Rattle.tree.specs.Pain008.{Document, declaration}
@@ -21,8 +23,10 @@ use Rattle.message.specs.Message.{Batch, batchesOf, exactCount, exactSum, worth
 use Rattle.message.specs.Verdict.{Verdict, Verdict.accepted, Verdict.refused, declared, row, rowsFrom, rowsOf, totalsOf}
 use Rattle.promise.specs.Check.{saidBy, roomOf, tableAfter, Long, OutOfForm, ByStages, Checks}
 use Rattle.promise.specs.Demand2.{InProfile, AllAgree, Belongs, Enough}
+use Rattle.promise.specs.Texts.{TextBreaks}
 use Rattle.promise.proofs.Outcome.{same-said, refusal-keeps}
 use Rattle.promise.proofs.Numbers.{refusal-number, belongs-exactly}
+use Rattle.promise.proofs.Texts.{At, text-refused}
 use Rattle.promise.proofs.Demand2.{demand-2-accepts, demand-2-only}
 use Rattle.carries.specs.Carried.{Accepted}
 use Rattle.desk.specs.Answers.{checkedNumbers}
@@ -49,6 +53,12 @@ rows-tell m (b ∷ bs) l =
 
 -- ─── an outcome of the check ───
 
+-- none of the check's numbers is 0, nor does 0 stand before 6
+least : (n : ℕ) → CheckNumber n → 1 ≤ n
+least n (inl (inl x)) = x .0
+least n (inl (inr x)) = omega arith
+least n (inr x) = omega arith
+
 -- the number of a verdict is 0 exactly where it accepts
 zero-accepts : (v : Verdict) → ((f : Fault) → v ≡ refused f → 1 ≤ f .number) → checkedNumbers v .number ≡ 0 → (t : Totals) × (v ≡ accepted t)
 zero-accepts (accepted t) h e = (t, refl)
@@ -59,7 +69,7 @@ module _ (s : Bytes) (slips rows : List ℕ) (v : Verdict) (a b : List ℕ) (h :
   number = checkedNumbers v .number
 
   accepts : number ≡ 0 → (t : Totals) × (v ≡ accepted t)
-  accepts e = zero-accepts v (λ f g. refusal-number s slips rows v a b h f g .0) e
+  accepts e = zero-accepts v (λ f g. least (f .number) (refusal-number s slips rows v a b h f g)) e
 
   -- an accepted message is read, and its rows are put
   read : (t : Totals) → v ≡ accepted t → ByStages s slips rows v a b
@@ -70,10 +80,10 @@ module _ (s : Bytes) (slips rows : List ℕ) (v : Verdict) (a b : List ℕ) (h :
       go (inr (inl q)) = absurd (let z : _≡_ {A = ℕ} 0 1 = cc in omega arith)
       go (inr (inr q)) = q
 
-  pub numbers : (number ≡ 0) ⊎ ((1 ≤ number) × (number ≤ 11))
+  pub numbers : (number ≡ 0) ⊎ CheckNumber number
   numbers = go v refl
     where
-      go : (w : Verdict) → v ≡ w → (checkedNumbers w .number ≡ 0) ⊎ ((1 ≤ checkedNumbers w .number) × (checkedNumbers w .number ≤ 11))
+      go : (w : Verdict) → v ≡ w → (checkedNumbers w .number ≡ 0) ⊎ CheckNumber (checkedNumbers w .number)
       go (accepted t) e = inl refl
       go (refused f) e = inr (refusal-number s slips rows v a b h f e)
 
@@ -116,24 +126,18 @@ module _ (s : Bytes) (slips rows : List ℕ) (v : Verdict) (a b : List ℕ) (h :
             agree = subst (λ (ts : List Told). AllAgree ts) same (p .agree);
           }
 
-  pub belongs : ((m : Message Document) × Belongs s m) ↔ (1 ≤ number → number ≤ 5 → ⊥)
+  pub belongs : ((m : Message Document) × Belongs s m) ↔ (BeforeTotals number → ⊥)
   belongs = (λ p. late (belongs-exactly s slips rows v a b h .0 p), λ n. belongs-exactly s slips rows v a b h .1 (early n))
     where
-      late : ((f : Fault) → v ≡ refused f → 6 ≤ f .number) → 1 ≤ number → number ≤ 5 → ⊥
-      late g x y = go v refl
+      late : ((f : Fault) → v ≡ refused f → BeforeTotals (f .number) → ⊥) → BeforeTotals number → ⊥
+      late g x = go v refl
         where
           go : (w : Verdict) → v ≡ w → ⊥
-          go (accepted t) e = omega (arith, ap (λ (w : Verdict). checkedNumbers w .number) e)
-          go (refused f) e = omega (arith, g f e, ap (λ (w : Verdict). checkedNumbers w .number) e)
+          go (accepted t) e = absurd (omega (arith, least number (inl x), ap (λ (w : Verdict). checkedNumbers w .number) e))
+          go (refused f) e = g f e (subst BeforeTotals (ap (λ (w : Verdict). checkedNumbers w .number) e) x)
 
-      early : (1 ≤ number → number ≤ 5 → ⊥) → (f : Fault) → v ≡ refused f → 6 ≤ f .number
-      early n f e =
-          let i : number ≡ f .number = ap (λ (w : Verdict). checkedNumbers w .number) e in
-          go (decLe 6 (f .number)) i
-        where
-          go : Dec (6 ≤ f .number) → number ≡ f .number → 6 ≤ f .number
-          go (yes l) i = l
-          go (no l) i = absurd (n (omega (arith, refusal-number s slips rows v a b h f e .0)) (omega arith))
+      early : (BeforeTotals number → ⊥) → (f : Fault) → v ≡ refused f → BeforeTotals (f .number) → ⊥
+      early n f e x = n (subst BeforeTotals (sym (ap (λ (w : Verdict). checkedNumbers w .number) e)) x)
 
   pub answers : number ≡ 0 → (m : Message Document) → message declaration m ≡ s → checkedNumbers v ≡ checkedNumbers (accepted (totalsOf (batchesOf (saidBy m))))
   answers z m e =
@@ -153,3 +157,15 @@ module _ (s : Bytes) (slips rows : List ℕ) (v : Verdict) (a b : List ℕ) (h :
       q .rows-are ∙ ap (λ (w : Verdict). tableAfter w rows (rowsOf (saidBy (q .read)))) (t .1) ∙ ap (λ (ts : List Told). putAt rows 0 (rowsOf ts)) same
       in
       subst (λ (l : List ℕ). RowsTell (batchesOf (saidBy m)) l) (sym put) (rows-tell 0 (batchesOf (saidBy m)) (drop (0 + length (rowsOf (saidBy m))) rows))
+
+  pub texts : (f : Flaw) (p : ℕ) → ((number ≡ flawNumber f) × (checkedNumbers v .place ≡ p)) ↔ ((m : Message Document) × TextBreaks s m f p)
+  texts f p = (to v refl, λ x. from (text-refused s slips rows v a b h f p .1 x))
+    where
+      to : (w : Verdict) → v ≡ w → (number ≡ flawNumber f) × (checkedNumbers v .place ≡ p) → (m : Message Document) × TextBreaks s m f p
+      to (accepted t) e x = absurd (omega (arith, ap (λ (w : Verdict). checkedNumbers w .number) e, x .0, flaw-number f))
+      to (refused g) e x =
+          text-refused s slips rows v a b h f p .0
+          (g, (e, (sym (ap (λ (w : Verdict). checkedNumbers w .number) e) ∙ x .0, sym (ap (λ (w : Verdict). checkedNumbers w .place) e) ∙ x .1)))
+
+      from : At s slips rows v a b h f p → (number ≡ flawNumber f) × (checkedNumbers v .place ≡ p)
+      from (g, (e, (n, d))) = (ap (λ (w : Verdict). checkedNumbers w .number) e ∙ n, ap (λ (w : Verdict). checkedNumbers w .place) e ∙ d)

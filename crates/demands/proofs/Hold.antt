@@ -1,14 +1,21 @@
--- THE THREE DEMANDS HOLD, of all four operations.
+-- THE THREE DEMANDS, AND REQUEST 1, HOLD of all four operations.
 --   demands   THE CLAIM is proved
+use Prim.Native.Nat.{ℕ}
+use mathlib.Core.Logic.{_↔_}
 use mathlib.Core.Path.{_≡_, refl, ap, sym, _∙_}
 use lib.ListN.{length}
 use Rattle.laws.specs.Bytes.{Bytes}
-use Rattle.tree.specs.Form.{message}
-use Rattle.tree.specs.Pain008.{declaration}
+use Rattle.profile.specs.declared.Flaw.{Flaw}
+use Rattle.profile.specs.Refusals.{flawNumber}
+use Rattle.profile.specs.Numbers.{CheckNumber, WriteNumber}
+use Rattle.tree.specs.Form.{Message, message}
+use Rattle.tree.specs.Pain008.{Document, declaration}
 use Rattle.message.specs.Verdict.{Verdict}
 use Rattle.answer.specs.declared.Checked.{Checked}
 use Rattle.answer.specs.Said.{said}
 use Rattle.promise.specs.Check.{Checks}
+use Rattle.promise.specs.Texts.{TextBreaks}
+use Rattle.daylist.specs.Breaks.{ValueBreaks}
 use Rattle.promise.proofs.Outcome.{said-once, one-outcome}
 use Rattle.write.specs.declared.Written.{Written}
 use Rattle.write.specs.Write.{answerFor, outputFor}
@@ -16,7 +23,8 @@ use Rattle.write.proofs.Answers.{write-once}
 use Rattle.desk.specs.declared.DeskChecked.{DeskChecked}
 use Rattle.desk.specs.declared.DeskWritten.{DeskWritten}
 use Rattle.desk.specs.Answers.{checkedNumbers, writtenNumbers}
-use Rattle.demands.specs.Demands.{Tables, Job, Check, DeskCheck, Write, DeskWrite, checkTold, writeTold, Demand1, Demand2, Demand3, Demands}
+use Rattle.demands.specs.Demands.{Tables, Job, Check, DeskCheck, Write, DeskWrite, checkTold, writeTold, Demand1, Demand2, Demand3, TextsRefused, ValuesRefused, Demands}
+use Rattle.demands.proofs.Flaws.{by-flaw}
 use Rattle.demands.proofs.Checks as check
 use Rattle.demands.proofs.Writes as write
 
@@ -35,7 +43,7 @@ record Told (x : Bytes × Tables) (w : DeskChecked) (t : Tables) : Type 0 where
   pub numbers : w ≡ checkedNumbers verdict
 
 module _ {A : Type 0} (allows : Bytes × Tables → A × Tables → Type 0) (told : A → DeskChecked) (of : (x : Bytes × Tables) (y : A × Tables) → allows x y → Told x (told (y .0)) (y .1)) where
-  demand-1 : ((x : Bytes × Tables) (y z : A × Tables) → allows x y → allows x z → y ≡ z) → Demand1 allows (λ r. told r .number) 1 11
+  demand-1 : ((x : Bytes × Tables) (y z : A × Tables) → allows x y → allows x z → y ≡ z) → Demand1 allows (λ r. told r .number) CheckNumber
   demand-1 once = record {
     numbers = λ x y h. let o = of x y h in rw (o .numbers) (check.numbers (x .0) (x .1 .slips) (x .1 .rows) (o .verdict) (y .1 .slips) (y .1 .rows) (o .checks));
     once = once;
@@ -55,6 +63,16 @@ module _ {A : Type 0} (allows : Bytes × Tables → A × Tables → Type 0) (tol
     belongs = λ x y h. let o = of x y h in rw (o .numbers) (check.belongs (x .0) (x .1 .slips) (x .1 .rows) (o .verdict) (y .1 .slips) (y .1 .rows) (o .checks));
     answers = λ x y h. let o = of x y h in rw (o .numbers) (check.answers (x .0) (x .1 .slips) (x .1 .rows) (o .verdict) (y .1 .slips) (y .1 .rows) (o .checks));
     absent = λ x y h. let o = of x y h in rw (o .numbers) (check.absent (x .0) (x .1 .slips) (x .1 .rows) (o .verdict) (y .1 .slips) (y .1 .rows) (o .checks));
+  }
+
+  by-texts : (x : Bytes × Tables) (y : A × Tables) (f : Flaw) (p : ℕ) → allows x y
+      → ((told (y .0) .number ≡ flawNumber f) × (told (y .0) .place ≡ p)) ↔ ((m : Message Document) × TextBreaks (x .0) m f p)
+  by-texts x y f p h = let o = of x y h in rw (o .numbers) (check.texts (x .0) (x .1 .slips) (x .1 .rows) (o .verdict) (y .1 .slips) (y .1 .rows) (o .checks) f p)
+
+  refused-texts : TextsRefused allows told
+  refused-texts = record {
+    numbered = by-texts;
+    somewhere = λ x y p h. by-flaw (told (y .0) .number) (told (y .0) .place ≡ p) (λ f. (m : Message Document) × TextBreaks (x .0) m f p) (λ f. by-texts x y f p h);
   }
 
 check-told : (x : Bytes × Tables) (y : Checked × Tables) → Check x y → Told x (checkTold (y .0)) (y .1)
@@ -86,7 +104,7 @@ module _ {A : Type 0} (allows : Given → A × Bytes → Type 0) (told : A → D
   ends : (x : Given) (y : A × Bytes) → allows x y → write.Outcome (x .0 .list) (x .0 .ceiling) (x .1) (told (y .0)) (y .1)
   ends x y h = let o = of x y h in rw (o .0, o .1) (write.outcome (x .0 .list) (x .0 .ceiling) (x .1))
 
-  written-1 : ((x : Given) (y z : A × Bytes) → allows x y → allows x z → y ≡ z) → Demand1 allows (λ r. told r .number) 21 28
+  written-1 : ((x : Given) (y z : A × Bytes) → allows x y → allows x z → y ≡ z) → Demand1 allows (λ r. told r .number) WriteNumber
   written-1 once = record {
     numbers = λ x y h. write.numbers (x .0 .list) (x .0 .ceiling) (x .1) (told (y .0)) (y .1) (ends x y h);
     once = once;
@@ -101,6 +119,15 @@ module _ {A : Type 0} (allows : Given → A × Bytes → Type 0) (told : A → D
     fewest = λ x y h z.
         write.fewest (x .0 .list) (x .0 .ceiling) (x .1) (told (y .0)) (y .1) (write.is-done (x .0 .list) (x .0 .ceiling) (x .1) (told (y .0)) (y .1) (ends x y h) z);
     too-many = λ x y h. write.too-many (x .0 .list) (x .0 .ceiling) (x .1) (told (y .0)) (y .1) (ends x y h);
+  }
+
+  refused-values : ValuesRefused allows told
+  refused-values = record {
+    numbered = λ x y f n i h. write.values (x .0 .list) (x .0 .ceiling) (x .1) (told (y .0)) (y .1) f n i (ends x y h);
+    somewhere = λ x y n h.
+        by-flaw (told (y .0) .number) (told (y .0) .place ≡ n) (λ f. (i : ℕ) × ValueBreaks (x .0 .list) (x .0 .ceiling) f n i)
+        (λ f. write.values-at (x .0 .list) (x .0 .ceiling) (x .1) (told (y .0)) (y .1) f n (ends x y h));
+    no-field = λ x y h. write.no-field (x .0 .list) (x .0 .ceiling) (x .1) (told (y .0)) (y .1) (ends x y h);
   }
 
 write-told : (x : Given) (y : Written × Bytes) → Write x y → Wrote x (writeTold (y .0)) (y .1)
@@ -124,4 +151,8 @@ demands = record {
   desk-check-2 = demand-2 DeskCheck (λ r. r) desk-told;
   write-3 = written-3 Write writeTold write-told;
   desk-write-3 = written-3 DeskWrite (λ r. r) (λ x y h. h);
+  check-texts = refused-texts Check checkTold check-told;
+  desk-check-texts = refused-texts DeskCheck (λ r. r) desk-told;
+  write-values = refused-values Write writeTold write-told;
+  desk-write-values = refused-values DeskWrite (λ r. r) (λ x y h. h);
 }

@@ -1,6 +1,6 @@
 -- DEMANDS 1 TO 3, OF WHAT THE WRITER ANSWERS AND LEAVES IN THE OUTPUT.
---   Outcome, outcome   the four ways in which writing ends: 21 to 26; 27; 28; written
---   numbers, keeps, fixed, fewest, given-room, too-many   the demands, of each of them
+--   Outcome, outcome   the four ways in which writing ends: the list is refused; 27; 28; written
+--   numbers, keeps, fixed, fewest, given-room, too-many, values, values-at, no-field   the demands, of each of them
 use Prim.Native.Nat.{ℕ, _+_, _≤_, _<_}
 use native.Mathlib.Omega.{arith}
 use native.Mathlib.Decide.{decLe}
@@ -15,7 +15,12 @@ use Rattle.laws.specs.Lists.{All}
 use Rattle.laws.specs.Put.{putAt}
 use Rattle.laws.proofs.Counts.{All-map}
 use Rattle.profile.specs.Limits.{mostBytes, mostBatches}
-use Rattle.profile.specs.Refusals.{fault}
+use Rattle.profile.specs.Refusals.{fault, flawNumber, listFaultOf, listNumberOf, listPlaceOf, listFieldOf}
+use Rattle.profile.specs.Numbers.{TextNumber, JudgedNumber, WriteNumber}
+use Rattle.profile.specs.declared.Flaw.{Flaw}
+use Rattle.profile.specs.declared.ListRefusal.{ListRefusal}
+use Rattle.profile.specs.declared.ListRefusal.the-variants.{TooLong, Ceiling, NotAFrame, NoCollection, TooManyCollections, Value, TooManyBatches, OutputTooShort}
+use Rattle.profile.proofs.Faults.{flaw-number, flaw-once}
 use Rattle.tree.specs.Form.{Message}
 use Rattle.tree.specs.Pain008.{Document}
 use Rattle.message.specs.Verdict.{Verdict, Verdict.accepted}
@@ -24,7 +29,9 @@ use Rattle.promise.specs.Check.{Checks}
 use Rattle.daylist.specs.declared.JudgedList.{JudgedList}
 use Rattle.daylist.specs.declared.JudgedList.the-variants.{Good, Refused as Bad}
 use Rattle.daylist.specs.Stages.{judgedList}
-use Rattle.daylist.proofs.Early.{Early, list-number, list-early}
+use Rattle.daylist.specs.Breaks.{ValueBreaks}
+use Rattle.daylist.proofs.Breaks.{value-refused}
+use Rattle.daylist.proofs.Early.{Early, list-early}
 use Rattle.daylist.proofs.Goods.{good-list}
 use Rattle.bundle.specs.Bundle.{Fits}
 use Rattle.bundle.proofs.Batches.{batches-fit, batches-number}
@@ -43,10 +50,10 @@ use Rattle.demands.specs.Demands.{MeetsNone, FixedMessage, FewestBatches
 
 -- the answer w in numbers, and the output out′ afterwards
 pub data Outcome (s : Bytes) (c : ℕ) (out : Bytes) (w : DeskWritten) (out′ : Bytes) : Type 0 where
-  bad : 21 ≤ w .number → w .number ≤ 26 → out′ ≡ out → Outcome s c out w out′
-  many : (n : ℕ) → judgedList s c ≡ Good n → mostBatches < batchesNeeded s c → w .number ≡ 27 → out′ ≡ out → Outcome s c out w out′
-  long : (n : ℕ) → judgedList s c ≡ Good n → batchesNeeded s c ≤ mostBatches → length out < length (written s c) → w .number ≡ 28 → out′ ≡ out → Outcome s c out w out′
-  done : (n : ℕ) → judgedList s c ≡ Good n → batchesNeeded s c ≤ mostBatches → w ≡ record { number = 0; place = length (written s c) } → out′ ≡ putAt out 0 (written s c)
+  bad : (r : ListRefusal) → judgedList s c ≡ Bad r → JudgedNumber (listNumberOf r) → w ≡ writtenNumbers (refused (listFaultOf r)) → out′ ≡ out → Outcome s c out w out′
+  many : (n : ℕ) → judgedList s c ≡ Good n → mostBatches < batchesNeeded s c → w .number ≡ 27 → w .field ≡ 0 → out′ ≡ out → Outcome s c out w out′
+  long : (n : ℕ) → judgedList s c ≡ Good n → batchesNeeded s c ≤ mostBatches → length out < length (written s c) → w .number ≡ 28 → w .field ≡ 0 → out′ ≡ out → Outcome s c out w out′
+  done : (n : ℕ) → judgedList s c ≡ Good n → batchesNeeded s c ≤ mostBatches → w ≡ record { number = 0; place = length (written s c); field = 0 } → out′ ≡ putAt out 0 (written s c)
       → Outcome s c out w out′
 
 module _ (s : Bytes) (c : ℕ) (out : Bytes) where
@@ -61,7 +68,7 @@ module _ (s : Bytes) (c : ℕ) (out : Bytes) where
   fits (no r) n e l =
       let x : length out < length (written s c) = omega arith in
       let h : fitted (written s c) (length out) ≡ refused (fault 28 (length (written s c))) = rw (lt-leb (length (written s c)) (length out) x, fitted) in
-      subst Ends (sym h) (long n e l x refl refl)
+      subst Ends (sym h) (long n e l x refl refl refl)
 
   bundles : Dec (batchesNeeded s c ≤ mostBatches) → (n : ℕ) → judgedList s c ≡ Good n → Ends (bundled (batchesNeeded s c) (fitted (written s c) (length out)))
   bundles (yes l) n e =
@@ -71,11 +78,11 @@ module _ (s : Bytes) (c : ℕ) (out : Bytes) where
   bundles (no l) n e =
       let x : mostBatches < batchesNeeded s c = omega arith in
       let h : bundled (batchesNeeded s c) (fitted (written s c) (length out)) ≡ refused (fault 27 (batchesNeeded s c)) = rw (lt-leb (batchesNeeded s c) mostBatches x, bundled) in
-      subst Ends (sym h) (many n e x refl refl)
+      subst Ends (sym h) (many n e x refl refl refl)
 
   judges : (j : JudgedList) → judgedList s c ≡ j → Early j → Ends (asJudged j (bundled (batchesNeeded s c) (fitted (written s c) (length out))))
   judges (Good n) e h = bundles (decLe (batchesNeeded s c) mostBatches) n e
-  judges (Bad r) e h = bad (list-number r .0) h refl
+  judges (Bad r) e h = bad r e h refl refl
 
   pub outcome : Outcome s c out (writtenNumbers (answerFor s c (length out))) (outputFor s c out)
   unfolding answerFor outputFor
@@ -87,17 +94,47 @@ short : (s : Bytes) (c n : ℕ) → judgedList s c ≡ Good n → batchesNeeded 
 unfolding written
 short s c n e l = list-carries s c n e l .accepted .belongs .short
 
+-- none of the numbers of a list that is judged is 0
+above : (n : ℕ) → JudgedNumber n → n ≡ 0 → ⊥
+above n (inl x) e = omega arith
+above n (inr x) e = omega arith
+
+-- a refusal with one of 51 to 58 is that of a value, and no other has a field
+of-value : (r : ListRefusal) → TextNumber (listNumberOf r) → (f : Flaw) × (r ≡ Value f (listPlaceOf r) (listFieldOf r))
+of-value TooLong x = absurd (omega arith)
+of-value Ceiling x = absurd (omega arith)
+of-value (NotAFrame line) x = absurd (omega arith)
+of-value (NoCollection lines) x = absurd (omega arith)
+of-value TooManyCollections x = absurd (omega arith)
+of-value (Value f line i) x = (f, refl)
+of-value (TooManyBatches n) x = absurd (omega arith)
+of-value (OutputTooShort n) x = absurd (omega arith)
+
+fieldless : (r : ListRefusal) → (TextNumber (listNumberOf r) → ⊥) → listFieldOf r ≡ 0
+fieldless TooLong x = refl
+fieldless Ceiling x = refl
+fieldless (NotAFrame line) x = refl
+fieldless (NoCollection lines) x = refl
+fieldless TooManyCollections x = refl
+fieldless (Value f line i) x = absurd (x (flaw-number f))
+fieldless (TooManyBatches n) x = refl
+fieldless (OutputTooShort n) x = refl
+
 module _ (s : Bytes) (c : ℕ) (out : Bytes) (w : DeskWritten) (out′ : Bytes) where
-  pub numbers : Outcome s c out w out′ → (w .number ≡ 0) ⊎ ((21 ≤ w .number) × (w .number ≤ 28))
-  numbers (bad a b k) = inr (a, omega arith)
-  numbers (many n e l x k) = inr (omega arith, omega arith)
-  numbers (long n e l r x k) = inr (omega arith, omega arith)
+  -- the number of a list that is refused
+  judged : (r : ListRefusal) → JudgedNumber (listNumberOf r) → w ≡ writtenNumbers (refused (listFaultOf r)) → JudgedNumber (w .number)
+  judged r a x = subst JudgedNumber (sym (ap (λ (v : DeskWritten). v .number) x)) a
+
+  pub numbers : Outcome s c out w out′ → (w .number ≡ 0) ⊎ WriteNumber (w .number)
+  numbers (bad r j a x k) = inr (inl (judged r a x))
+  numbers (many n e l x y k) = inr (inr (omega arith, omega arith))
+  numbers (long n e l r x y k) = inr (inr (omega arith, omega arith))
   numbers (done n e l x k) = inl (ap (λ (v : DeskWritten). v .number) x)
 
   pub keeps : Outcome s c out w out′ → (w .number ≡ 0 → ⊥) → out′ ≡ out
-  keeps (bad a b k) h = k
-  keeps (many n e l x k) h = k
-  keeps (long n e l r x k) h = k
+  keeps (bad r j a x k) h = k
+  keeps (many n e l x y k) h = k
+  keeps (long n e l r x y k) h = k
   keeps (done n e l x k) h = absurd (h (ap (λ (v : DeskWritten). v .number) x))
 
   -- a written list
@@ -109,9 +146,9 @@ module _ (s : Bytes) (c : ℕ) (out : Bytes) (w : DeskWritten) (out′ : Bytes) 
     pub output : out′ ≡ putAt out 0 (written s c)
 
   pub is-done : Outcome s c out w out′ → w .number ≡ 0 → Done
-  is-done (bad a b k) h = absurd (omega arith)
-  is-done (many n e l x k) h = absurd (omega arith)
-  is-done (long n e l r x k) h = absurd (omega arith)
+  is-done (bad r j a x k) h = absurd (above (w .number) (judged r a x) h)
+  is-done (many n e l x y k) h = absurd (omega arith)
+  is-done (long n e l r x y k) h = absurd (omega arith)
   is-done (done n e l x k) h = record { collections = n; good = e; few = l; place = ap (λ (v : DeskWritten). v .place) x; output = k }
 
   module _ (d : Done) where
@@ -151,13 +188,59 @@ module _ (s : Bytes) (c : ℕ) (out : Bytes) (w : DeskWritten) (out′ : Bytes) 
     }
 
   pub given-room : Outcome s c out w out′ → MeetsNone (w .number) → mostBytes ≤ length out → (w .number ≡ 0) ⊎ (w .number ≡ 27)
-  given-room (bad a b k) h r = absurd (h a b)
-  given-room (many n e l x k) h r = inr x
-  given-room (long n e l q x k) h r = absurd (omega (arith, short s c n e l))
+  given-room (bad q j a x k) h r = absurd (h (judged q a x))
+  given-room (many n e l x y k) h r = inr x
+  given-room (long n e l q x y k) h r = absurd (omega (arith, short s c n e l))
   given-room (done n e l x k) h r = inl (ap (λ (v : DeskWritten). v .number) x)
 
   pub too-many : Outcome s c out w out′ → MeetsNone (w .number) → (w .number ≡ 27) ↔ ((m : Message Document) → CarriesList m c (listed s) → ⊥)
-  too-many (bad a b k) h = absurd (h a b)
-  too-many (many n e l x k) h = (λ z. list-refused s c n e .0 l, λ f. x)
-  too-many (long n e l r x k) h = (λ z. absurd (omega arith), λ f. absurd (omega (arith, list-refused s c n e .1 f)))
+  too-many (bad r j a x k) h = absurd (h (judged r a x))
+  too-many (many n e l x y k) h = (λ z. list-refused s c n e .0 l, λ f. x)
+  too-many (long n e l r x y k) h = (λ z. absurd (omega arith), λ f. absurd (omega (arith, list-refused s c n e .1 f)))
   too-many (done n e l x k) h = (λ z. absurd (omega (arith, ap (λ (v : DeskWritten). v .number) x)), λ f. absurd (omega (arith, list-refused s c n e .1 f)))
+
+  module _ (f : Flaw) (n i : ℕ) where
+    abbrev Told : Type 0
+    Told = (w .number ≡ flawNumber f) × ((w .place ≡ n) × (w .field ≡ i))
+
+    -- a list that is judged good has no such value
+    none-breaks : (m : ℕ) → judgedList s c ≡ Good m → ValueBreaks s c f n i → ⊥
+    none-breaks m e b =
+        let d = sym e ∙ value-refused s c f n i .1 b in
+        let z : _≡_ {A = ℕ} 0 1 = cc in
+        omega arith
+
+    value-breaks : Outcome s c out w out′ → Told → ValueBreaks s c f n i
+    value-breaks (bad r j a x k) (t, (d, g)) =
+        let u : listNumberOf r ≡ flawNumber f = sym (ap (λ (v : DeskWritten). v .number) x) ∙ t in
+        let y = of-value r (subst TextNumber (sym u) (flaw-number f)) in
+        let same : y .0 ≡ f = flaw-once (y .0) f (sym (ap listNumberOf (y .1)) ∙ u) in
+        let place : listPlaceOf r ≡ n = sym (ap (λ (v : DeskWritten). v .place) x) ∙ d in
+        let field : listFieldOf r ≡ i = sym (ap (λ (v : DeskWritten). v .field) x) ∙ g in
+        value-refused s c f n i .0 (j ∙ ap Bad (y .1 ∙ λ m. Value (same m) (place m) (field m)))
+    value-breaks (many m e l x y k) (t, d) = absurd (omega (arith, flaw-number f))
+    value-breaks (long m e l r x y k) (t, d) = absurd (omega (arith, flaw-number f))
+    value-breaks (done m e l x k) (t, d) = absurd (omega (arith, ap (λ (v : DeskWritten). v .number) x, flaw-number f))
+
+    value-told : Outcome s c out w out′ → ValueBreaks s c f n i → Told
+    value-told (bad r j a x k) b =
+        let d = sym j ∙ value-refused s c f n i .1 b in
+        let e : r ≡ Value f n i = cc in
+        let g : w ≡ writtenNumbers (refused (listFaultOf (Value f n i))) = x ∙ ap (λ (q : ListRefusal). writtenNumbers (refused (listFaultOf q))) e in
+        (ap (λ (v : DeskWritten). v .number) g, (ap (λ (v : DeskWritten). v .place) g, ap (λ (v : DeskWritten). v .field) g))
+    value-told (many m e l x y k) b = absurd (none-breaks m e b)
+    value-told (long m e l r x y k) b = absurd (none-breaks m e b)
+    value-told (done m e l x k) b = absurd (none-breaks m e b)
+
+    pub values : Outcome s c out w out′ → Told ↔ ValueBreaks s c f n i
+    values o = (value-breaks o, value-told o)
+
+  -- whatever the field
+  pub values-at : (f : Flaw) (n : ℕ) → Outcome s c out w out′ → ((w .number ≡ flawNumber f) × (w .place ≡ n)) ↔ ((i : ℕ) × ValueBreaks s c f n i)
+  values-at f n o = (λ x. (w .field, values f n (w .field) o .0 (x .0, (x .1, refl))), λ x. let y = values f n (x .0) o .1 (x .1) in (y .0, y .1 .0))
+
+  pub no-field : Outcome s c out w out′ → (TextNumber (w .number) → ⊥) → w .field ≡ 0
+  no-field (bad r j a x k) h = ap (λ (v : DeskWritten). v .field) x ∙ fieldless r (λ t. h (subst TextNumber (sym (ap (λ (v : DeskWritten). v .number) x)) t))
+  no-field (many m e l x y k) h = y
+  no-field (long m e l r x y k) h = y
+  no-field (done m e l x k) h = ap (λ (v : DeskWritten). v .field) x

@@ -1,14 +1,15 @@
--- THE CUSTOMER'S THREE DEMANDS, in the customer's order and words: each sentence a claim about what the operations answer and leave behind.
+-- THE CUSTOMER'S THREE DEMANDS, AND REQUEST 1, in the customer's order and words: each sentence a claim about what the operations answer and leave behind.
 -- To be believed: that this is what was demanded. That it holds is proofs/Hold.
 -- An operation is given x: its input (x .0), and the lent buffers at entry (x .1). Its outcome is y: its answer (y .0), and the buffers at exit (y .1).
 --   Tables, Job                          the two tables that a check is lent; the list and the ceiling that a writer is given
 --   Check, DeskCheck, Write, DeskWrite   y is an outcome that the promise of `check`, `desk_check`, `write`, `desk_write` allows for x
 --   checkTold, writeTold                 the answers of `check` and `write` in numbers
 --   Demand1, Demand2, Demand3            the demands, of an operation whose answers `told` gives in numbers
+--   TextsRefused, ValuesRefused          request 1: what is wrong with a text, and with a value of a list
 --   Tells, RowTells, RowsTell            what a row says of a declaration, and of a batch; the rows of all batches
 --   LongEnough t m                       the tables t are long enough for the message m
 --   FixedMessage, FewestBatches          what demands 2 and 3 ask of a written message
---   MeetsNone n                          n is the number of none of the refusals 21 to 26
+--   MeetsNone n                          n is none of the numbers of a list as it is judged: document 01's "none of refusals 21 to 26"
 --   Demands                              THE CLAIM, of the four operations
 use Prim.Native.Nat.{ℕ, _*_, _≤_}
 use mathlib.Core.List.{List, [], _∷_}
@@ -20,6 +21,9 @@ use Rattle.laws.specs.Bytes.{Bytes}
 use Rattle.laws.specs.Lists.{total, All}
 use Rattle.laws.specs.Put.{putAt}
 use Rattle.profile.specs.Limits.{mostBytes}
+use Rattle.profile.specs.declared.Flaw.{Flaw}
+use Rattle.profile.specs.Refusals.{flawNumber}
+use Rattle.profile.specs.Numbers.{TextNumber, BeforeTotals, CheckNumber, JudgedNumber, WriteNumber}
 use Rattle.tree.specs.Form.{Message, message}
 use Rattle.tree.specs.Pain008.{Document, declaration}
 use Rattle.message.specs.declared.Told.{Told}
@@ -29,6 +33,8 @@ use Rattle.answer.specs.declared.Checked.{Checked}
 use Rattle.answer.specs.Said.{said}
 use Rattle.promise.specs.Check.{saidBy, roomOf, Checks}
 use Rattle.promise.specs.Demand2.{Belongs, Enough}
+use Rattle.promise.specs.Texts.{TextBreaks}
+use Rattle.daylist.specs.Breaks.{ValueBreaks}
 use Rattle.bundle.specs.Bundle.{Fits}
 use Rattle.collections.specs.Listed.{listed}
 use Rattle.written.specs.Written.{messageFor}
@@ -75,12 +81,12 @@ writeTold r = writtenNumbers (answered r)
 -- ─── demand 1 ───
 
 -- "Every public operation takes any input, of any length, ends, and does its own checking": none has a `requires`, and a proof of a function includes that it ends.
--- I are the inputs, B the buffers, A the answers; `number` is 0 where nothing is refused
-module _ {I A B : Type 0} (allows : I × B → A × B → Type 0) (number : A → ℕ) (least most : ℕ) where
+-- I are the inputs, B the buffers, A the answers; `number` is 0 where nothing is refused, and Numbered are the papers' numbers
+module _ {I A B : Type 0} (allows : I × B → A × B → Type 0) (number : A → ℕ) (Numbered : ℕ → Type 0) where
   pub record Demand1 : Type 0 where
     -- "Each refusal carries one of the numbers in document 01"
     pub numbers : (x : I × B) (y : A × B) → allows x y
-        → (number (y .0) ≡ 0) ⊎ ((least ≤ number (y .0)) × (number (y .0) ≤ most))
+        → (number (y .0) ≡ 0) ⊎ Numbered (number (y .0))
     -- "with its place, given exactly in the situation named there": any two outcomes that the promise allows are the same, answer and buffers
     pub once : (x : I × B) (y z : A × B) → allows x y → allows x z → y ≡ z
     -- "and the lent tables and buffers stay as they were"
@@ -120,7 +126,7 @@ module _ {A : Type 0} (allows : Bytes × Tables → A × Tables → Type 0) (tol
         → (told (y .0) .number ≡ 0) ↔ Accepted m
     -- "A message belongs to the profile when it meets no refusal that stands before 6" (document 01)
     pub belongs : (x : Bytes × Tables) (y : A × Tables) → allows x y
-        → ((m : Message Document) × Belongs (x .0) m) ↔ (1 ≤ told (y .0) .number → told (y .0) .number ≤ 5 → ⊥)
+        → ((m : Message Document) × Belongs (x .0) m) ↔ (BeforeTotals (told (y .0) .number) → ⊥)
     -- "An accepted message answers its batches, transactions and cents" (document 01)
     pub answers : (x : Bytes × Tables) (y : A × Tables) → allows x y → told (y .0) .number ≡ 0 → (m : Message Document) → message declaration m ≡ x .0
         → told (y .0) ≡ checkedNumbers (accepted (totalsOf (batchesOf (saidBy m))))
@@ -149,7 +155,7 @@ pub record FixedMessage (s : Bytes) (c n : ℕ) (out out′ : Bytes) : Type 0 wh
 -- ─── demand 3 ───
 
 abbrev pub MeetsNone : ℕ → Type 0
-MeetsNone n = 21 ≤ n → n ≤ 26 → ⊥
+MeetsNone n = JudgedNumber n → ⊥
 
 pub record FewestBatches (s : Bytes) (c : ℕ) : Type 0 where
   -- "the written message carries exactly the listed collections, repeats included,"
@@ -174,14 +180,40 @@ module _ {A : Type 0} (allows : Job × Bytes → A × Bytes → Type 0) (told : 
     pub too-many : (x : Job × Bytes) (y : A × Bytes) → allows x y → MeetsNone (told (y .0) .number)
         → (told (y .0) .number ≡ 27) ↔ ((m : Message Document) → CarriesList m (x .0 .ceiling) (listed (x .0 .list)) → ⊥)
 
+-- ─── request 1: "Say what is wrong with the text" ───
+
+module _ {A : Type 0} (allows : Bytes × Tables → A × Tables → Type 0) (told : A → DeskChecked) where
+  pub record TextsRefused : Type 0 where
+    -- "5 and 26 are replaced by 51 length, 52 letter, ..": the number is that of the first test that the first bad text fails, the place its start
+    pub numbered : (x : Bytes × Tables) (y : A × Tables) (f : Flaw) (p : ℕ) → allows x y
+        → ((told (y .0) .number ≡ flawNumber f) × (told (y .0) .place ≡ p)) ↔ ((m : Message Document) × TextBreaks (x .0) m f p)
+    -- so one of the eight is given at a place exactly where document 01 names 5 there
+    pub somewhere : (x : Bytes × Tables) (y : A × Tables) (p : ℕ) → allows x y
+        → (TextNumber (told (y .0) .number) × (told (y .0) .place ≡ p)) ↔ ((f : Flaw) × ((m : Message Document) × TextBreaks (x .0) m f p))
+
+module _ {A : Type 0} (allows : Job × Bytes → A × Bytes → Type 0) (told : A → DeskWritten) where
+  pub record ValuesRefused : Type 0 where
+    -- "For a list the answer also tells the field"
+    pub numbered : (x : Job × Bytes) (y : A × Bytes) (f : Flaw) (n i : ℕ) → allows x y
+        → ((told (y .0) .number ≡ flawNumber f) × ((told (y .0) .place ≡ n) × (told (y .0) .field ≡ i))) ↔ ValueBreaks (x .0 .list) (x .0 .ceiling) f n i
+    -- so one of the eight is given at a line exactly where document 01 names 26 there
+    pub somewhere : (x : Job × Bytes) (y : A × Bytes) (n : ℕ) → allows x y
+        → (TextNumber (told (y .0) .number) × (told (y .0) .place ≡ n)) ↔ ((f : Flaw) × ((i : ℕ) × ValueBreaks (x .0 .list) (x .0 .ceiling) f n i))
+    -- and no other answer has a field
+    pub no-field : (x : Job × Bytes) (y : A × Bytes) → allows x y → (TextNumber (told (y .0) .number) → ⊥) → told (y .0) .field ≡ 0
+
 -- ─── the claim ───
 
 pub record Demands : Type 0 where
-  pub check-1 : Demand1 Check (λ r. checkTold r .number) 1 11
-  pub desk-check-1 : Demand1 DeskCheck (λ r. r .number) 1 11
-  pub write-1 : Demand1 Write (λ r. writeTold r .number) 21 28
-  pub desk-write-1 : Demand1 DeskWrite (λ r. r .number) 21 28
+  pub check-1 : Demand1 Check (λ r. checkTold r .number) CheckNumber
+  pub desk-check-1 : Demand1 DeskCheck (λ r. r .number) CheckNumber
+  pub write-1 : Demand1 Write (λ r. writeTold r .number) WriteNumber
+  pub desk-write-1 : Demand1 DeskWrite (λ r. r .number) WriteNumber
   pub check-2 : Demand2 Check checkTold
   pub desk-check-2 : Demand2 DeskCheck (λ r. r)
   pub write-3 : Demand3 Write writeTold
   pub desk-write-3 : Demand3 DeskWrite (λ r. r)
+  pub check-texts : TextsRefused Check checkTold
+  pub desk-check-texts : TextsRefused DeskCheck (λ r. r)
+  pub write-values : ValuesRefused Write writeTold
+  pub desk-write-values : ValuesRefused DeskWrite (λ r. r)

@@ -1,6 +1,6 @@
 -- WHAT THE FUNCTIONS OF THE DESK ANSWER, in numbers. To be believed; definitions only.
 --   checkedNumbers v         number 0 and the totals of an accepted message; the number and place of a refusal, and totals 0
---   writtenNumbers a         number 0 and the length of a written message; the number and place of a refusal
+--   writtenNumbers a         number 0 and the length of a written message; the number, place and field of a refusal
 --   DeskChecks s slips rows r slips′ rows′   the check's promise (promise/specs/Check), its answer in numbers
 use Prim.Native.Nat.{ℕ}
 use mathlib.Core.List.{List}
@@ -22,5 +22,5 @@ pub record DeskChecks (s : Bytes) (slips rows : List ℕ) (r : DeskChecked) (sli
   pub numbers : r ≡ checkedNumbers verdict
 
 abbrev pub writtenNumbers : Answer → DeskWritten
-writtenNumbers (success n) = record { number = 0; place = n }
-writtenNumbers (unwritten f) = record { number = f .number; place = f .place }
+writtenNumbers (success n) = record { number = 0; place = n; field = 0 }
+writtenNumbers (unwritten f) = record { number = f .number; place = f .place; field = f .field }

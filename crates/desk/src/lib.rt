@@ -51,11 +51,12 @@ pub extern "C" fn desk_check(message: &[u8], slips: &mut [u64], rows: &mut [u64]
 
 // ─── the writer ───
 
-// What the writer answers: number 0 and the length of the message, or the number and place of a refusal.
+// What the writer answers: number 0 and the length of the message, or the number and place of a refusal, and the field of a value.
 #[repr(C)]
 pub struct DeskWritten {
     pub number: u64,
     pub place: u64,
+    pub field: u64,
 }
 
 // The answer in numbers.
@@ -66,10 +67,12 @@ fn written_numbers(written: Written) -> DeskWritten
         Written::Length(length) => DeskWritten {
             number: 0,
             place: length as u64,
+            field: 0,
         },
         Written::Refused(refusal) => DeskWritten {
             number: refusal.number(),
             place: refusal.place() as u64,
+            field: refusal.field() as u64,
         },
     }
 }

@@ -7,18 +7,17 @@
 --   begins-batch, begins-transaction, begins-other   an element begins
 --   text-step                      what is heard of a text is the step
 --   finished                       after the last event
-use Prim.Native.Nat.{ℕ, zero, suc, _+_, _-_, _*_, _^_, _≤_, _<_}
+use Prim.Native.Nat.{ℕ, zero, suc, _+_, _-_, _*_, _^_, _<_}
 use native.Mathlib.Omega.{arith}
-use mathlib.Core.Bool.{Bool, true, false}
-use mathlib.Core.List.{List, [], _∷_}
+use mathlib.Core.Bool.{Bool}
+use mathlib.Core.List.{List, []}
 use mathlib.Core.Option.{Option, none, some}
 use mathlib.Core.Path.{_≡_, refl, ap, sym, _∙_}
-use mathlib.Core.Logic.{_≢_}
 use borrow.Author.Tests.{ne-eqb}
 use lib.Dec.{eqb, ltb}
-use Rattle.laws.proofs.Tests.{eqb-cases, ltb-cases}
+use Rattle.laws.proofs.Tests.{eqb-cases}
 use Rattle.profile.specs.Limits.{mostBytes}
-use Rattle.profile.specs.Refusals.{Fault, flawed}
+use Rattle.profile.specs.Refusals.{Fault, fault, flawNumber}
 use Rattle.profile.specs.Totals.{closed, begun, totals}
 use Rattle.profile.specs.declared.Flaw.{Flaw}
 use Rattle.profile.specs.declared.Tally.{Tally}
@@ -29,7 +28,7 @@ use Rattle.text.specs.Rules as rules
 use Rattle.tree.specs.Parts as part
 use Rattle.message.specs.declared.Told.{Told}
 use Rattle.message.specs.Verdict.{orElse, broken}
-use Rattle.heard.specs.State.{ifTrue, ifAny, Word, nothing, opens, Limit, fewer, faultFrom, putIfRoom, rowNumbers, State, settledTally, settledSlips, shut, added, began, saying, insideBatch, step}
+use Rattle.heard.specs.State.{ifTrue, ifAny, Word, nothing, opens, Limit, fewer, faultFrom, putIfRoom, rowNumbers, State, settledTally, settledSlips, shut, saying, step}
 use Rattle.heard.specs.Row.{Row, rowOf, stateOf, stateWith, withSaid, withoutFrom, withBad, withFault, withBatchCounted, withTransactionCounted}
 use Rattle.heard.specs.Bounds.{Within}
 use Rattle.heard.proofs.Rows.{any-some}
@@ -104,8 +103,8 @@ module _ (w : Row) (p a n : ℕ) (j i : Judged) (e : i ≡ j) where
   pub told-good : (r : Row) (m : ℕ) → i ≡ Good m → r ≡ withSaid w p (record { mark = 1; start = a; length = n; worth = m }) → r ≡ toldRow w p a n j
   told-good r m f g = g ∙ bad-none _ ∙ rw (sym e ∙ f) refl
 
-  pub told-bad : (r v : Row) (f : Flaw) → i ≡ Bad f → v ≡ withSaid w p (record { mark = 1; start = a; length = n; worth = 0 }) → r ≡ withBad v (some (flawed 5 f a)) → r ≡ toldRow w p a n j
-  told-bad r v f h g k = k ∙ ap (λ (x : Row). withBad x (some (flawed 5 f a))) g ∙ rw (sym e ∙ h) refl
+  pub told-bad : (r v : Row) (f : Flaw) → i ≡ Bad f → v ≡ withSaid w p (record { mark = 1; start = a; length = n; worth = 0 }) → r ≡ withBad v (some (fault (flawNumber f) a)) → r ≡ toldRow w p a n j
+  told-bad r v f h g k = k ∙ ap (λ (x : Row). withBad x (some (fault (flawNumber f) a))) g ∙ rw (sym e ∙ h) refl
 
 -- ─── an element begins ───
 

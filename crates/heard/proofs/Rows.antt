@@ -23,7 +23,10 @@ use Rattle.laws.specs.Put.{putAt}
 use Rattle.laws.proofs.Puts.{get-before, get-behind, get-in, put-nil, put-one, put-two, put-append, put-back}
 use Rattle.laws.proofs.Below.{below}
 use Rattle.laws.proofs.Tests.{eqb-cases, ltb-cases, and-l, and-r}
-use Rattle.profile.specs.Refusals.{Fault, fault}
+use Rattle.profile.specs.declared.Flaw.{Flaw}
+use Rattle.profile.specs.Refusals.{Fault, fault, flawNumber}
+use Rattle.profile.specs.Flaws.{flawOf}
+use Rattle.profile.proofs.Faults.{flaw-number, flaw-back}
 use Rattle.profile.specs.Totals.{freshTally}
 use Rattle.message.specs.Verdict.{orElse}
 use Rattle.heard.specs.State.{ifTrue, ifAny, Word, nothing, Limit, fewer, fresh}
@@ -33,6 +36,13 @@ use Rattle.tree.specs.Parts.{partsEnd}
 pub any-some : {A : Type 0} (k : ℕ) (a b : A) → (k ≡ 0 → ⊥) → a ≡ ifAny k a b
 any-some zero a b h = absurd (h refl)
 any-some (suc k) a b h = refl
+
+-- the number of a flaw names it
+bad-is : (m p : ℕ) (f : Flaw) → m ≡ flawNumber f → badIn m p ≡ some (fault (flawNumber f) p)
+bad-is m p f e =
+    sym (any-some m _ none (λ z. absurd (omega (arith, e, flaw-number f .0))))
+    ∙ ap (λ (k : ℕ). some (fault (flawNumber (flawOf k)) p)) e
+    ∙ ap (λ (g : Flaw). some (fault (flawNumber g) p)) (flaw-back f)
 
 -- ─── the words ───
 
@@ -259,11 +269,11 @@ module _ (ns : List ℕ) (h : length ns ≡ heardLength) where
       go zero p n = absurd (n refl)
       go (suc m) p n = refl
 
-  pub flaw-noted : (m p : ℕ) (f : Fault) → getD ns flawSlot 0 ≡ 0 → badIn m p ≡ some f → rowOf (set (set ns flawSlot m) (flawSlot + 1) p) ≡ withBad (rowOf ns) (some f)
+  pub flaw-noted : (m p : ℕ) (f : Flaw) → getD ns flawSlot 0 ≡ 0 → m ≡ flawNumber f → rowOf (set (set ns flawSlot m) (flawSlot + 1) p) ≡ withBad (rowOf ns) (some (fault (flawNumber f) p))
   unfolding rowOf
   flaw-noted m p f z e =
       ap rowOf (put-two ns flawSlot m p (omega arith)) ∙ row-flaw ns m p h
-      ∙ row-is (λ q. refl) (e ∙ ap (λ (k : ℕ). orElse (badIn k (getD ns (flawSlot + 1) 0)) (some f)) (sym z)) refl refl refl
+      ∙ row-is (λ q. refl) (bad-is m p f e ∙ ap (λ (k : ℕ). orElse (badIn k (getD ns (flawSlot + 1) 0)) (some (fault (flawNumber f) p))) (sym z)) refl refl refl
 
   pub fault-kept : (f : Option Fault) → (getD ns faultSlot 0 ≡ 0 → ⊥) → rowOf ns ≡ withFault (rowOf ns) f
   unfolding rowOf

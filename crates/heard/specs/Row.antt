@@ -5,15 +5,14 @@
 --   stateOf ns y s r   with the tally y and the tables s and r
 --   badIn, faultAt     a first fault in two numbers
 --   withSaid, withoutFrom, withBad, withBatchCounted, withTransactionCounted, withFault   what each of the stores does
-use Prim.Native.Nat.{ℕ, zero, suc, _+_, _-_, _*_}
+use Prim.Native.Nat.{ℕ, _+_, _-_, _*_}
 use mathlib.Core.List.{List, [], _∷_}
 use mathlib.Core.Option.{Option, none, some}
 use lib.Dec.{eqb, ltb}
 use lib.ListN.{getD}
 use Rattle.laws.specs.Put.{putAt}
-use Rattle.profile.specs.Refusals.{Fault, fault, flawed}
-use Rattle.profile.specs.declared.Flaw.{Flaw}
-use Rattle.profile.specs.declared.Flaw.the-variants.{Length, Letter, Slash, Number, Date, Code, Shape, CheckDigits}
+use Rattle.profile.specs.Refusals.{Fault, fault, flawNumber}
+use Rattle.profile.specs.Flaws.{flawOf}
 use Rattle.profile.specs.declared.Tally.{Tally}
 use Rattle.tree.specs.Parts.{partsEnd}
 use Rattle.message.specs.Verdict.{orElse}
@@ -45,13 +44,9 @@ wordsIn ns p = ifTrue (ltb p partsEnd) (wordAt ns p) nothing
 abbrev pub limitAt : List ℕ → ℕ → Limit
 limitAt ns i = record { left = getD ns i 0; place = getD ns (i + 1) 0 }
 
--- the kind of rule by number, from 1
-abbrev pub flaws : List Flaw
-flaws = Length ∷ Letter ∷ Slash ∷ Number ∷ Date ∷ Code ∷ Shape ∷ CheckDigits ∷ []
-
+-- a number that is not 0 is read as that of a flaw
 abbrev pub badIn : ℕ → ℕ → Option Fault
-badIn zero p = none
-badIn (suc m) p = some (flawed 5 (getD flaws m CheckDigits) p)
+badIn n p = ifAny n (some (fault (flawNumber (flawOf n)) p)) none
 
 abbrev pub faultAt : ℕ → ℕ → Option Fault
 faultAt n p = ifAny n (some (fault n p)) none

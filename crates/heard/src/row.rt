@@ -4,10 +4,10 @@ ghost use mathlib.Core.List.{List, [], _∷_};
 ghost use mathlib.Core.Option.{some};
 ghost use Prim.Native.Nat.{ℕ, _+_, _*_, _≤_, _<_};
 ghost use lib.ListN.{length, getD};
-ghost use Rattle.profile.specs.Refusals.{flawed, fault};
+ghost use Rattle.profile.specs.Refusals.{fault, flawNumber};
 ghost use Rattle.profile.specs.Totals.{freshTally};
 ghost use Rattle.heard.specs.State.{countOf, sumOf, fresh};
-ghost use Rattle.heard.specs.Row.{heardLength, rowOf, stateOf, badIn, counted, withSaid, withoutFrom, withBad, withFault, withBatchCounted, withTransactionCounted};
+ghost use Rattle.heard.specs.Row.{heardLength, rowOf, stateOf, counted, withSaid, withoutFrom, withBad, withFault, withBatchCounted, withTransactionCounted};
 ghost use Rattle.tree.specs.Parts.{partsEnd};
 use crate::Slot;
 use crate::Word;
@@ -94,31 +94,15 @@ pub fn forget(heard: &mut [u64], from: usize)
 
 // ─── first faults ───
 
-// The kind of rule by number, from 1.
-fn flaw_number(flaw: Flaw) -> u64
-    ensures { λ r. ⌜ ((p : ℕ) → badIn r p ≡ some (flawed 5 flaw p)) ⌝ }
-{
-    match flaw {
-        Flaw::Length => 1,
-        Flaw::Letter => 2,
-        Flaw::Slash => 3,
-        Flaw::Number => 4,
-        Flaw::Date => 5,
-        Flaw::Code => 6,
-        Flaw::Shape => 7,
-        Flaw::CheckDigits => 8,
-    }
-}
-
 // A text that starts here breaks its rule.
 pub fn note_flaw(heard: &mut [u64], flaw: Flaw, start: usize)
     requires { ⌜ length (now heard) ≡ heardLength ⌝ }
-    ensures { λ _. ⌜ rowOf (now (heard .exit)) ≡ withBad (rowOf (now (heard .entry))) (some (flawed 5 flaw start)) ⌝ }
+    ensures { λ _. ⌜ rowOf (now (heard .exit)) ≡ withBad (rowOf (now (heard .entry))) (some (fault (flawNumber flaw) start)) ⌝ }
 {
     if heard[Slot::FLAW] != 0 {
         return;
     }
-    heard[Slot::FLAW] = flaw_number(flaw);
+    heard[Slot::FLAW] = flaw.number();
     heard[Slot::FLAW + 1] = start as u64;
 }
 

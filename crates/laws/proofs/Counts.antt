@@ -1,9 +1,10 @@
--- THE LAWS OF `total`, `count`, `keep`, `All`, `concat` AND `gather`.
+-- THE LAWS OF `total`, `count`, `keep`, `All`, `FirstNot`, `concat` AND `gather`.
 --   total-append, total-plus, total-le, total-ext, total-zero    sums
 --   count-append, count-map, count-ext, count-none               counts; count-le-length: at most the length
 --   count-keep, length-keep, All-keep                            what is kept: how many pass a test, how many there are, each passed
 --   keep-ext, keep-true, keep-keep, map-keep                     by an equal test, by no test, by two tests, of a mapped list; map-id: mapped to itself
 --   All-append, All-map, All-take, All-drop, All-putIf           what holds of each; All-kept: also of each that is kept
+--   here-not, later-not                                          the first of which it does not hold: it stands in front, or after one of which it does
 --   concat-append                                                lists of lists, one after the other
 --   length-gather, All-gather, count-concat-gather               what is gathered
 use Prim.Native.Nat.{ℕ, zero, suc, _+_, _≤_}
@@ -14,7 +15,7 @@ use mathlib.Core.List.{List, [], _∷_, _++_, map, append-assoc}
 use mathlib.Core.Path.{_≡_, refl, ap, ap₂, sym, _∙_}
 use lib.Dec.{T}
 use lib.ListN.{length, take, drop, length-append}
-use Rattle.laws.specs.Lists.{one, putIf, total, count, keep, All, concat, gather}
+use Rattle.laws.specs.Lists.{one, putIf, total, count, keep, All, concat, gather, FirstNot}
 use Rattle.laws.proofs.Tests.{T-false}
 
 -- ─── sums ───
@@ -145,6 +146,12 @@ module _ {A : Type 0} (P : A → Type 0) where
   pub All-kept : (q : A → Bool) (xs : List A) → All P xs → All P (keep q xs)
   All-kept q [] h = tt
   All-kept q (x ∷ xs) h = All-putIf (q x) x (keep q xs) (h .0) (All-kept q xs (h .1))
+
+  pub here-not : (x : A) (xs : List A) → (P x → ⊥) → FirstNot P (x ∷ xs) x
+  here-not x xs f = record { before = []; after = xs; whole = refl; held = tt; fails = f }
+
+  pub later-not : (x y : A) (xs : List A) → P x → FirstNot P xs y → FirstNot P (x ∷ xs) y
+  later-not x y xs h n = record { before = x ∷ n .before; after = n .after; whole = ap (λ (l : List A). x ∷ l) (n .whole); held = (h, n .held); fails = n .fails }
 
   pub All-map : (Q : A → Type 0) (xs : List A) → ((x : A) → P x → Q x) → All P xs → All Q xs
   All-map Q [] f h = tt

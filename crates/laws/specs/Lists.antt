@@ -7,9 +7,12 @@
 --   All P xs      P holds of each of xs
 --   concat bs     the lists of bs, one after the other
 --   gather f xs   what f makes of each of xs, one after the other
-use Prim.Native.Nat.{ℕ, _+_}
+--   number n xs   each of xs with its number, from n on
+--   FirstNot P xs x   x is the first of xs of which P does not hold
+use Prim.Native.Nat.{ℕ, suc, _+_}
 use mathlib.Core.Bool.{Bool, true, false}
 use mathlib.Core.List.{List, [], _∷_, _++_}
+use mathlib.Core.Path.{_≡_}
 
 abbrev pub one : Bool → ℕ
 one true = 1
@@ -42,3 +45,14 @@ module _ {A : Type 0} where
   abbrev pub gather : {B : Type 0} → (A → List B) → List A → List B
   gather f [] = []
   gather f (x ∷ xs) = f x ++ gather f xs
+
+  abbrev pub number : ℕ → List A → List (ℕ × A)
+  number n [] = []
+  number n (x ∷ xs) = (n, x) ∷ number (suc n) xs
+
+  pub record FirstNot (P : A → Type 0) (xs : List A) (x : A) : Type 0 where
+    pub before : List A
+    pub after : List A
+    pub whole : xs ≡ before ++ x ∷ after
+    pub held : All P before
+    pub fails : P x → ⊥

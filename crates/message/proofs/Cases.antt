@@ -62,10 +62,21 @@ cases =
     ∷ case (edit printed 295 0 "<!-- -->") 2 296
     ∷ case (edit printed 155 0 " ") 2 155
     ∷ case (printed ++ 0 ∷ []) 2 1743
-    -- 5: an empty text; a byte outside the letter set; a bad IBAN and a wrong count together
-    ∷ case (edit printed 914 5 "") 5 914
-    ∷ case (edit printed 914 5 "F>E 1") 5 914
-    ∷ case (edit (edit printed 1239 1 "8") 383 1 "3") 5 1218
+    -- 51 to 58: each once; 71 bytes and a byte outside the letter set; a bank that is none, and a BICFI that says so
+    ∷ case (edit printed 914 5 "") 51 914
+    ∷ case (edit printed 1172 14 "1234567890123456789012345678901234567890123456789012345678901234567890_") 51 1172
+    ∷ case (edit printed 914 5 "F>E 1") 52 914
+    ∷ case (edit printed 914 5 "/234567890123456789012345678901234_") 52 914
+    ∷ case (edit printed 914 5 "/EE 1") 53 914
+    ∷ case (edit printed 960 7 "0.00") 54 960
+    ∷ case (edit printed 540 10 "2026-02-30") 55 540
+    ∷ case (edit printed 1126 1 "X") 56 1116
+    ∷ case (edit printed 1554 8 "NOTPROVIDED") 57 1554
+    ∷ case (edit printed 1239 1 "8") 58 1218
+    -- a bad IBAN and a wrong count together, by its check digits and by its shape; of two texts the first
+    ∷ case (edit (edit printed 1239 1 "8") 383 1 "3") 58 1218
+    ∷ case (edit (edit printed 1239 1 "_") 383 1 "3") 57 1218
+    ∷ case (edit (edit printed 1239 1 "8") 914 5 "/EE 1") 53 914
     -- 6 and 7: the batch's count, its sum, both; a declared 0 is not an absent one
     ∷ case (edit printed 383 1 "3") 6 383
     ∷ case (edit printed 403 7 "3250.14") 7 403

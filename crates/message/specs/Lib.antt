@@ -1,4 +1,4 @@
 -- To be believed (definitions only):
---   Message   what a message says            Verdict   the stages 3 to 11, and the rows of the tables
+--   Message   what a message says            Verdict   the stages from 3 on, and the rows of the tables
 pub mod Message
 pub mod Verdict

@@ -1,6 +1,6 @@
--- THE STAGES 3 TO 11 of the check, AND THE ROWS of its tables, of what a message says. To be believed; definitions only.
+-- THE STAGES FROM 3 ON of the check, AND THE ROWS of its tables, of what a message says. To be believed; definitions only.
 --   Room             the lengths of the two tables
---   stages r ts      the stages in order, each its first fault or none: document 01's number, and the place
+--   stages r ts      the stages in order, each its first fault or none: the papers' number, and the place
 --   verdictOf r ts   the fault of the first stage that finds one, else the message's batches, transactions and cents
 --   slipsOf, rowsOf  the numbers that the two tables get
 use Prim.Native.Nat.{ℕ, zero, suc, _+_, _*_}
@@ -11,7 +11,7 @@ use lib.Dec.{eqb, leb}
 use lib.ListN.{length}
 use Rattle.laws.specs.Lists.{total, gather}
 use Rattle.profile.specs.Limits.{mostBatches, mostTransactions}
-use Rattle.profile.specs.Refusals.{Fault, fault, flawed}
+use Rattle.profile.specs.Refusals.{Fault, fault, flawNumber}
 use Rattle.profile.specs.declared.Totals.{Totals}
 use Rattle.text.specs.declared.Judged.{Judged}
 use Rattle.text.specs.declared.Judged.the-variants.{Good, Bad}
@@ -48,10 +48,10 @@ placeAfter k [] = none
 placeAfter zero (t ∷ ts) = some (t .place)
 placeAfter (suc k) (t ∷ ts) = placeAfter k ts
 
--- a text that breaks its rule
+-- 51 to 58: a text that breaks its rule, by its flaw
 abbrev pub broken : Judged → ℕ → Option Fault
 broken (Good n) p = none
-broken (Bad f) p = some (flawed 5 f p)
+broken (Bad f) p = some (fault (flawNumber f) p)
 
 -- the first such text, at its start
 abbrev pub firstBroken : List Told → Option Fault
@@ -76,7 +76,7 @@ stages r ts =
     let bs = batchesOf ts in
     at 3 (placeAfter mostBatches (allOf part.batch ts))
     ∷ at 4 (placeAfter mostTransactions (allOf part.transaction ts))
-    ∷ firstBroken ts  -- 5
+    ∷ firstBroken ts  -- 51 to 58
     ∷ first (map batchFault bs)  -- 6, 7
     ∷ at 8 (differs (the part.messageCount ts) (total exactCount bs))
     ∷ at 9 (differs (the part.messageSum ts) (total exactSum bs))

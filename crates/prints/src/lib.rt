@@ -18,3 +18,16 @@ pub fn print_refused(number: u64, place: u64) {
     print_number(place);
     print(b"\n");
 }
+
+// `NO`, number, place, and the field of a value, which is not 0.
+pub fn print_list_refused(number: u64, place: u64, field: u64) {
+    if field == 0 {
+        print_refused(number, place);
+        return;
+    }
+    print(b"NO");
+    print_number(number);
+    print_number(place);
+    print_number(field);
+    print(b"\n");
+}

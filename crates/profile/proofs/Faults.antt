@@ -1,36 +1,74 @@
--- A REFUSAL IS KNOWN BY ITS NUMBER, ITS PLACE AND ITS FLAW: each has a number of its own, so it is read back from what it is reported as.
+-- A REFUSAL IS KNOWN BY ITS NUMBER, ITS PLACE AND ITS FIELD: each has a number of its own, so it is read back from what it is reported as.
+--   flaw-number      the number of a flaw is one of 51 to 58; flaw-back, flaw-once: it comes back from its number
 --   fault-once, list-fault-once
 use Prim.Native.Nat.{ℕ, _-_}
+use native.Mathlib.Omega.{arith}
+use mathlib.Core.Bool.{true, false}
 use mathlib.Core.List.{[], _∷_}
-use mathlib.Core.Option.{Option, none, some}
 use mathlib.Core.Path.{_≡_, refl, ap, sym, _∙_}
+use borrow.Author.Tests.{le-leb}
+use lib.Dec.{leb}
 use lib.ListN.{getD}
 use Rattle.profile.specs.declared.Flaw.{Flaw}
+use Rattle.profile.specs.declared.Flaw.the-variants.{Length, Letter, Slash, Number, Date, Code, Shape, CheckDigits}
 use Rattle.profile.specs.declared.Refusal.{Refusal}
 use Rattle.profile.specs.declared.Refusal.the-variants.{TooLong, NotOfTheForm, TooManyBatches, TooManyTransactions, Text, BatchCount, BatchSum, MessageCount, MessageSum, SlipsTooShort, BatchesTooShort}
 use Rattle.profile.specs.declared.ListRefusal.{ListRefusal}
 use Rattle.profile.specs.declared.ListRefusal.the-variants.{TooLong as ListTooLong, Ceiling, NotAFrame, NoCollection, TooManyCollections, Value, TooManyBatches as BatchesNeeded, OutputTooShort}
-use Rattle.profile.specs.Refusals.{Fault, faultOf, listFaultOf}
+use Rattle.profile.specs.Refusals.{flawNumber, Fault, faultOf, listFaultOf}
+use Rattle.profile.specs.Numbers.{TextNumber}
+use Rattle.profile.specs.Flaws.{flawOf}
 
--- where there is no flaw, whatever comes first
-broken : {A : Type 0} → (Flaw → A) → A → Option Flaw → A
-broken of other none = other
-broken of other (some f) = of f
+-- ─── flaws ───
+
+pub flaw-number : (f : Flaw) → TextNumber (flawNumber f)
+flaw-number Length = (omega arith, omega arith)
+flaw-number Letter = (omega arith, omega arith)
+flaw-number Slash = (omega arith, omega arith)
+flaw-number Number = (omega arith, omega arith)
+flaw-number Date = (omega arith, omega arith)
+flaw-number Code = (omega arith, omega arith)
+flaw-number Shape = (omega arith, omega arith)
+flaw-number CheckDigits = (omega arith, omega arith)
+
+pub flaw-back : (f : Flaw) → flawOf (flawNumber f) ≡ f
+flaw-back Length = refl
+flaw-back Letter = refl
+flaw-back Slash = refl
+flaw-back Number = refl
+flaw-back Date = refl
+flaw-back Code = refl
+flaw-back Shape = refl
+flaw-back CheckDigits = refl
+
+-- two flaws of one number are the same
+pub flaw-once : (f g : Flaw) → flawNumber f ≡ flawNumber g → f ≡ g
+flaw-once f g e = sym (flaw-back f) ∙ ap flawOf e ∙ flaw-back g
+
+-- from 51 on the first, before it the second
+abbrev byFlaw : {A : Type 0} → ℕ → A → A → A
+byFlaw n a b = elim (leb 51 n) [ true ↦ a | false ↦ b ]
+
+by-flaw : {A : Type 0} (f : Flaw) (a b : A) → byFlaw (flawNumber f) a b ≡ a
+by-flaw f a b = rw (le-leb 51 (flawNumber f) (flaw-number f .0), byFlaw)
+
+-- ─── of the check ───
 
 back : Fault → Refusal
 back x =
     let p : ℕ = x .place in
-    getD (
-    TooLong ∷ NotOfTheForm p ∷ TooManyBatches p ∷ TooManyTransactions p ∷ broken (λ f. Text f p) TooLong (x .flaw)
-    ∷ BatchCount p ∷ BatchSum p ∷ MessageCount p ∷ MessageSum p ∷ SlipsTooShort p ∷ BatchesTooShort p ∷ []) (x .number - 1) TooLong
+    byFlaw (x .number) (Text (flawOf (x .number)) p)
+    (getD (
+    TooLong ∷ NotOfTheForm p ∷ TooManyBatches p ∷ TooManyTransactions p ∷ TooLong
+    ∷ BatchCount p ∷ BatchSum p ∷ MessageCount p ∷ MessageSum p ∷ SlipsTooShort p ∷ BatchesTooShort p ∷ []) (x .number - 1) TooLong)
 
 faulted-back : (r : Refusal) → back (faultOf r) ≡ r
-unfolding back broken
+unfolding back
 faulted-back TooLong = refl
 faulted-back (NotOfTheForm p) = refl
 faulted-back (TooManyBatches p) = refl
 faulted-back (TooManyTransactions p) = refl
-faulted-back (Text f p) = refl
+faulted-back (Text f p) = by-flaw f (Text (flawOf (flawNumber f)) p) _ ∙ ap (λ (g : Flaw). Text g p) (flaw-back f)
 faulted-back (BatchCount p) = refl
 faulted-back (BatchSum p) = refl
 faulted-back (MessageCount p) = refl
@@ -41,21 +79,22 @@ faulted-back (BatchesTooShort n) = refl
 pub fault-once : (r q : Refusal) → faultOf r ≡ faultOf q → r ≡ q
 fault-once r q e = sym (faulted-back r) ∙ ap back e ∙ faulted-back q
 
+-- ─── of a day list ───
+
 list-back : Fault → ListRefusal
 list-back x =
     let p : ℕ = x .place in
-    getD (
-    ListTooLong ∷ Ceiling ∷ NotAFrame p ∷ NoCollection p ∷ TooManyCollections ∷ broken (λ f. Value f p) Ceiling (x .flaw) ∷ BatchesNeeded p ∷ OutputTooShort p ∷ [])
-    (x .number - 21) Ceiling
+    byFlaw (x .number) (Value (flawOf (x .number)) p (x .field))
+    (getD (ListTooLong ∷ Ceiling ∷ NotAFrame p ∷ NoCollection p ∷ TooManyCollections ∷ Ceiling ∷ BatchesNeeded p ∷ OutputTooShort p ∷ []) (x .number - 21) Ceiling)
 
 list-faulted-back : (r : ListRefusal) → list-back (listFaultOf r) ≡ r
-unfolding list-back broken
+unfolding list-back
 list-faulted-back ListTooLong = refl
 list-faulted-back Ceiling = refl
 list-faulted-back (NotAFrame line) = refl
 list-faulted-back (NoCollection lines) = refl
 list-faulted-back TooManyCollections = refl
-list-faulted-back (Value f line) = refl
+list-faulted-back (Value f line i) = by-flaw f (Value (flawOf (flawNumber f)) line i) _ ∙ ap (λ (g : Flaw). Value g line i) (flaw-back f)
 list-faulted-back (BatchesNeeded n) = refl
 list-faulted-back (OutputTooShort n) = refl
 

@@ -1,2 +1,2 @@
--- Faults   a refusal is known by its number, its place and its flaw
+-- Faults   a refusal is known by its number, its place and its field
 pub mod Faults

@@ -1,8 +1,9 @@
-// The profile's limits by name, the standard's two quantities, what a batch declares, the refusals with document 01's numbers and places, and the running tally.
+// The profile's limits by name, the standard's two quantities, what a batch declares, the refusals with the papers' numbers, places and fields, and the running tally.
 ghost use mathlib.Core.Path.{_≡_};
 ghost use Prim.Native.Nat.{_+_, _^_, _<_};
 ghost use Rattle.profile.specs.Limits.{limits};
-ghost use Rattle.profile.specs.Refusals.{numberOf, placeOf, listNumberOf, listPlaceOf};
+ghost use Rattle.profile.specs.Refusals.{flawNumber, numberOf, placeOf, listNumberOf, listPlaceOf, listFieldOf};
+ghost use Rattle.profile.specs.Flaws.{flawOf};
 ghost use Rattle.profile.specs.Totals.{countDiffers, sumDiffers, freshTally, withTransaction, closed, begun, totals};
 
 // ─── the quantities ───
@@ -271,6 +272,40 @@ pub enum Flaw {
     CheckDigits,
 }
 
+impl Flaw {
+    // The number of its refusal.
+    pub fn number(self) -> u64
+        ensures { λ r. ⌜ r ≡ flawNumber self ⌝ }
+    {
+        match self {
+            Flaw::Length => 51,
+            Flaw::Letter => 52,
+            Flaw::Slash => 53,
+            Flaw::Number => 54,
+            Flaw::Date => 55,
+            Flaw::Code => 56,
+            Flaw::Shape => 57,
+            Flaw::CheckDigits => 58,
+        }
+    }
+
+    // The flaw of this number; the check digits for any number that no flaw has.
+    pub fn of_number(n: u64) -> Self
+        ensures { λ r. ⌜ r ≡ flawOf n ⌝ }
+    {
+        match n {
+            51 => Flaw::Length,
+            52 => Flaw::Letter,
+            53 => Flaw::Slash,
+            54 => Flaw::Number,
+            55 => Flaw::Date,
+            56 => Flaw::Code,
+            57 => Flaw::Shape,
+            _ => Flaw::CheckDigits,
+        }
+    }
+}
+
 // Why a message is refused, with the place that the case has.
 pub enum Refusal {
     TooLong,
@@ -287,7 +322,7 @@ pub enum Refusal {
 }
 
 impl Refusal {
-    // Document 01's number.
+    // Its number.
     pub fn number(self) -> u64
         ensures { λ r. ⌜ r ≡ numberOf self ⌝ }
     {
@@ -296,7 +331,7 @@ impl Refusal {
             Refusal::NotOfTheForm(_) => 2,
             Refusal::TooManyBatches(_) => 3,
             Refusal::TooManyTransactions(_) => 4,
-            Refusal::Text(_, _) => 5,
+            Refusal::Text(flaw, _) => flaw.number(),
             Refusal::BatchCount(_) => 6,
             Refusal::BatchSum(_) => 7,
             Refusal::MessageCount(_) => 8,
@@ -306,7 +341,7 @@ impl Refusal {
         }
     }
 
-    // Document 01's place.
+    // Its place.
     pub fn place(self) -> usize
         ensures { λ r. ⌜ r ≡ placeOf self ⌝ }
     {
@@ -326,14 +361,14 @@ impl Refusal {
     }
 }
 
-// Why a day list is refused, with the place that the case has.
+// Why a day list is refused, with the place that the case has; of a value its flaw, its line and its field.
 pub enum ListRefusal {
     TooLong,
     Ceiling,
     NotAFrame(usize),
     NoCollection(usize),
     TooManyCollections,
-    Value(Flaw, usize),
+    Value(Flaw, usize, usize),
     TooManyBatches(usize),
     OutputTooShort(usize),
 }
@@ -342,7 +377,7 @@ impl ListRefusal {
     // The line of the first collection that is one too many: after the creditor line and the most collections.
     pub const FIRST_TOO_MANY: usize = Profile::COLLECTIONS + 2;
 
-    // Document 01's number.
+    // Its number.
     pub fn number(self) -> u64
         ensures { λ r. ⌜ r ≡ listNumberOf self ⌝ }
     {
@@ -352,13 +387,13 @@ impl ListRefusal {
             ListRefusal::NotAFrame(_) => 23,
             ListRefusal::NoCollection(_) => 24,
             ListRefusal::TooManyCollections => 25,
-            ListRefusal::Value(_, _) => 26,
+            ListRefusal::Value(flaw, _, _) => flaw.number(),
             ListRefusal::TooManyBatches(_) => 27,
             ListRefusal::OutputTooShort(_) => 28,
         }
     }
 
-    // Document 01's place.
+    // Its place.
     pub fn place(self) -> usize
         ensures { λ r. ⌜ r ≡ listPlaceOf self ⌝ }
     {
@@ -368,9 +403,25 @@ impl ListRefusal {
             ListRefusal::NotAFrame(line) => line,
             ListRefusal::NoCollection(lines) => lines,
             ListRefusal::TooManyCollections => ListRefusal::FIRST_TOO_MANY,
-            ListRefusal::Value(_, line) => line,
+            ListRefusal::Value(_, line, _) => line,
             ListRefusal::TooManyBatches(needed) => needed,
             ListRefusal::OutputTooShort(needed) => needed,
+        }
+    }
+
+    // The field of a value in its line, from 1; 0 where it is no value.
+    pub fn field(self) -> usize
+        ensures { λ r. ⌜ r ≡ listFieldOf self ⌝ }
+    {
+        match self {
+            ListRefusal::TooLong => 0,
+            ListRefusal::Ceiling => 0,
+            ListRefusal::NotAFrame(_) => 0,
+            ListRefusal::NoCollection(_) => 0,
+            ListRefusal::TooManyCollections => 0,
+            ListRefusal::Value(_, _, field) => field,
+            ListRefusal::TooManyBatches(_) => 0,
+            ListRefusal::OutputTooShort(_) => 0,
         }
     }
 }

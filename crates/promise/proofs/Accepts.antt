@@ -1,6 +1,7 @@
 -- WITH TABLES LONG ENOUGH, THE STAGES ACCEPT exactly where what the message says is in the profile and every declaration agrees.
 --   first-none, none-first       the first of a list is none exactly where all are
---   profile-passes, in-profile   what a message says is in the profile exactly where the stages 3, 4 and 5 find nothing
+--   at-none, at-is-none, after-within, within-after   a stage finds nothing: of the limits, exactly where they are kept
+--   profile-passes, in-profile   what a message says is in the profile exactly where 3, 4 and 51 to 58 find nothing
 --   accepts             in the profile, and all agree: accepted, with the exact totals
 --   accepted-only       accepted: in the profile, and all agree
 use Prim.Native.Nat.{ℕ, zero, suc, _*_, _≤_, zero-le, suc-le-suc}
@@ -50,21 +51,21 @@ unfolding Nones
 none-first [] e = tt
 none-first (o ∷ l) e = (or-l o (first l) e, none-first l (or-r o (first l) e))
 
-at-none : (n : ℕ) (o : Option ℕ) → at n o ≡ none → o ≡ none
+pub at-none : (n : ℕ) (o : Option ℕ) → at n o ≡ none → o ≡ none
 at-none n none e = refl
 at-none n (some p) e = absurd (let z : _≡_ {A = ℕ} 0 1 = cc in omega arith)
 
-at-is-none : (n : ℕ) (o : Option ℕ) → o ≡ none → at n o ≡ none
+pub at-is-none : (n : ℕ) (o : Option ℕ) → o ≡ none → at n o ≡ none
 at-is-none n o e = rw e refl
 
 -- ─── stage by stage ───
 
-after-within : (k : ℕ) (ts : List Told) → placeAfter k ts ≡ none → length ts ≤ k
+pub after-within : (k : ℕ) (ts : List Told) → placeAfter k ts ≡ none → length ts ≤ k
 after-within k [] e = zero-le
 after-within zero (t ∷ ts) e = absurd (let z : _≡_ {A = ℕ} 0 1 = cc in omega arith)
 after-within (suc k) (t ∷ ts) e = suc-le-suc (after-within k ts e)
 
-within-after : (k : ℕ) (ts : List Told) → length ts ≤ k → placeAfter k ts ≡ none
+pub within-after : (k : ℕ) (ts : List Told) → length ts ≤ k → placeAfter k ts ≡ none
 within-after k [] h = refl
 within-after zero (t ∷ ts) h = absurd (not-suc-le-zero h)
 within-after (suc k) (t ∷ ts) h = within-after k ts (le-of-suc-le-suc h)
@@ -117,7 +118,7 @@ batches-agreed (b ∷ bs) h = rw (agreed (b .declaredCount) (exactCount b) (h .0
 
 -- ─── the profile ───
 
--- 3, 4 and 5 find nothing
+-- 3, 4 and 51 to 58 find nothing
 pub record Passes (ts : List Told) : Type 0 where
   pub batches : at 3 (placeAfter mostBatches (allOf part.batch ts)) ≡ none
   pub transactions : at 4 (placeAfter mostTransactions (allOf part.transaction ts)) ≡ none

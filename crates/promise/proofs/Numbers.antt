@@ -1,8 +1,12 @@
--- THE NUMBER OF A REFUSAL is one of 1 to 11; and a message belongs to the profile exactly where it meets no refusal that stands before 6.
---   Among lo hi o        a fault that was found has a number from lo to hi
---   refusal-number       the number of a refusal is one of 1 to 11
---   belongs-exactly      a message belongs to the profile exactly where the number of its refusal, if any, is 6 or more
-use Prim.Native.Nat.{ℕ, _*_, _≤_}
+-- THE NUMBER OF A REFUSAL is one of the check's; and a message belongs to the profile exactly where it meets no refusal that stands before 6.
+--   Among N o            a fault that was found has one of the numbers N
+--   passed               a fault that is not of a stage comes from the stages after it
+--   three, four, rest    the stages 3 and 4, and those from 6 on; rest-among: their numbers
+--   found                what a refused message's stages find
+--   Way                  the three ways in which a check ends
+--   refusal-number       the number of a refusal is one of the check's
+--   belongs-exactly      a message belongs to the profile exactly where no refusal of it has a number that stands before 6
+use Prim.Native.Nat.{ℕ, _*_}
 use native.Mathlib.Omega.{arith}
 use mathlib.Core.List.{List, [], _∷_, map}
 use mathlib.Core.Option.{Option, none, some}
@@ -13,7 +17,10 @@ use lib.Dec.{leb}
 use lib.ListN.{length, drop}
 use Rattle.laws.specs.Lists.{total, All}
 use Rattle.profile.specs.Limits.{mostBytes, mostBatches, mostTransactions}
-use Rattle.profile.specs.Refusals.{Fault, fault}
+use Rattle.profile.specs.Refusals.{Fault, fault, flawNumber}
+use Rattle.profile.specs.Numbers.{Between, BeforeTotals, CheckNumber}
+use Rattle.profile.specs.declared.Flaw.{Flaw}
+use Rattle.profile.proofs.Faults.{flaw-number}
 use Rattle.profile.specs.declared.Totals.{Totals}
 use Rattle.text.specs.declared.Judged.{Judged}
 use Rattle.text.specs.declared.Judged.the-variants.{Good, Bad}
@@ -30,141 +37,163 @@ use Rattle.promise.proofs.Outcome.{same-said}
 
 -- ─── 1. The numbers of the stages ───
 
-Among : ℕ → ℕ → Option Fault → Type 0
-Among lo hi o = (f : Fault) → o ≡ some f → (lo ≤ f .number) × (f .number ≤ hi)
+abbrev pub Among : (ℕ → Type 0) → Option Fault → Type 0
+Among N o = (f : Fault) → o ≡ some f → N (f .number)
 
-module _ (lo hi : ℕ) where
-  none-among : Among lo hi none
-  unfolding Among
+module _ (N : ℕ → Type 0) where
+  none-among : Among N none
   none-among f e = absurd (let z : _≡_ {A = ℕ} 0 1 = cc in omega arith)
 
-  some-among : (x : Fault) → lo ≤ x .number → x .number ≤ hi → Among lo hi (some x)
-  unfolding Among
-  some-among x a b f e = let h : x ≡ f = cc in subst (λ (y : Fault). (lo ≤ y .number) × (y .number ≤ hi)) h (a, b)
+  some-among : (x : Fault) → N (x .number) → Among N (some x)
+  some-among x a f e = let h : x ≡ f = cc in subst (λ (y : Fault). N (y .number)) h a
 
-  at-among : (n : ℕ) (o : Option ℕ) → lo ≤ n → n ≤ hi → Among lo hi (at n o)
-  at-among n none a b = none-among
-  at-among n (some p) a b = some-among _ a b
+  pub at-among : (n : ℕ) (o : Option ℕ) → N n → Among N (at n o)
+  at-among n none a = none-among
+  at-among n (some p) a = some-among (fault n p) a
 
-  or-among : (a b : Option Fault) → Among lo hi a → Among lo hi b → Among lo hi (orElse a b)
+  or-among : (a b : Option Fault) → Among N a → Among N b → Among N (orElse a b)
   or-among none b x y = y
   or-among (some a) b x y = x
 
-  first-among : (l : List (Option Fault)) → All (Among lo hi) l → Among lo hi (first l)
+  first-among : (l : List (Option Fault)) → All (Among N) l → Among N (first l)
   first-among [] h = none-among
   first-among (o ∷ l) h = or-among o (first l) (h .0) (first-among l (h .1))
 
-  broken-among : (ts : List Told) → lo ≤ 5 → 5 ≤ hi → Among lo hi (firstBroken ts)
-  broken-among [] a b = none-among
-  broken-among (t ∷ ts) a b = or-among (broken (t .judged) (t .start)) (firstBroken ts) (go (t .judged)) (broken-among ts a b)
+  broken-among : (ts : List Told) → ((f : Flaw) → N (flawNumber f)) → Among N (firstBroken ts)
+  broken-among [] a = none-among
+  broken-among (t ∷ ts) a = or-among (broken (t .judged) (t .start)) (firstBroken ts) (go (t .judged)) (broken-among ts a)
     where
-      go : (j : Judged) → Among lo hi (broken j (t .start))
+      go : (j : Judged) → Among N (broken j (t .start))
       go (Good n) = none-among
-      go (Bad f) = some-among _ a b
+      go (Bad f) = some-among (fault (flawNumber f) (t .start)) (a f)
 
-  batch-among : (x : Batch) → lo ≤ 6 → 7 ≤ hi → Among lo hi (batchFault x)
-  batch-among x a b =
+  batches-among : (bs : List Batch) → N 6 → N 7 → Among N (first (map batchFault bs))
+  batches-among [] a b = none-among
+  batches-among (x ∷ bs) a b =
       let n : Option ℕ = differs (x .declaredCount) (exactCount x) in
       let c : Option ℕ = differs (x .declaredSum) (exactSum x) in
-      or-among (at 6 n) (at 7 c) (at-among 6 n a (omega arith)) (at-among 7 c (omega arith) b)
-
-  batches-among : (bs : List Batch) → lo ≤ 6 → 7 ≤ hi → Among lo hi (first (map batchFault bs))
-  batches-among [] a b = none-among
-  batches-among (x ∷ bs) a b = or-among (batchFault x) (first (map batchFault bs)) (batch-among x a b) (batches-among bs a b)
+      or-among (batchFault x) (first (map batchFault bs)) (or-among (at 6 n) (at 7 c) (at-among 6 n a) (at-among 7 c b)) (batches-among bs a b)
 
 -- ─── 2. The stages before 6, and from 6 on ───
 
--- a fault that was found has a number from 6 on
+-- no fault that was found stands before 6
 Late : Option Fault → Type 0
-Late o = (f : Fault) → o ≡ some f → 6 ≤ f .number
+Late o = (f : Fault) → o ≡ some f → BeforeTotals (f .number) → ⊥
 
--- where that holds of o and the rest, a stage o that finds smaller numbers alone finds nothing
-early : (o rest : Option Fault) → Among 0 5 o → Late (orElse o rest) → (o ≡ none) × Late rest
-unfolding Among Late
+-- where that holds of o and the rest, a stage o whose faults all stand before 6 finds nothing
+early : (o rest : Option Fault) → Among BeforeTotals o → Late (orElse o rest) → (o ≡ none) × Late rest
+unfolding Late
 early none rest x h = (refl, h)
-early (some f) rest x h = absurd (omega (arith, h f refl, x f refl .1))
+early (some f) rest x h = absurd (h f refl (x f refl))
+
+-- a fault of another number comes from the rest
+pub passed : (N : ℕ → Type 0) (o rest : Option Fault) (f : Fault) → Among N o → orElse o rest ≡ some f → (N (f .number) → ⊥) → (o ≡ none) × (rest ≡ some f)
+passed N none rest f x e n = (refl, e)
+passed N (some g) rest f x e n = absurd (n (x f e))
 
 module _ (r : Room) (ts : List Told) where
-  abbrev three : Option ℕ
+  abbrev pub three : Option ℕ
   three = placeAfter mostBatches (allOf part.batch ts)
 
-  abbrev four : Option ℕ
+  abbrev pub four : Option ℕ
   four = placeAfter mostTransactions (allOf part.transaction ts)
 
-  abbrev five : Option Fault
-  five = firstBroken ts
-
-  abbrev rest : Option Fault
+  abbrev pub rest : Option Fault
   rest = first (drop 3 (stages r ts))
 
-  rest-among : (lo : ℕ) → lo ≤ 6 → Among lo 11 rest
-  rest-among lo h =
+  pub rest-among : (N : ℕ → Type 0) → ((n : ℕ) → Between 6 11 n → N n) → Among N rest
+  rest-among N h =
       let bs : List Batch = batchesOf ts in
       let eight : Option ℕ = differs (the part.messageCount ts) (total exactCount bs) in
       let nine : Option ℕ = differs (the part.messageSum ts) (total exactSum bs) in
       let ten : Option ℕ = unless (leb (12 * total exactCount bs) (r .slips)) (12 * total exactCount bs) in
       let eleven : Option ℕ = unless (leb (8 * length bs) (r .rows)) (8 * length bs) in
-      first-among lo 11 (first (map batchFault bs) ∷ at 8 eight ∷ at 9 nine ∷ at 10 ten ∷ at 11 eleven ∷ []) (
-        batches-among lo 11 bs h (omega arith),
+      first-among N (first (map batchFault bs) ∷ at 8 eight ∷ at 9 nine ∷ at 10 ten ∷ at 11 eleven ∷ []) (
+        batches-among N bs (h 6 (omega arith, omega arith)) (h 7 (omega arith, omega arith)),
         (
-          at-among lo 11 8 eight (omega arith) (omega arith),
-          (at-among lo 11 9 nine (omega arith) (omega arith), (at-among lo 11 10 ten (omega arith) (omega arith), (at-among lo 11 11 eleven (omega arith) (omega arith), tt))),
+          at-among N 8 eight (h 8 (omega arith, omega arith)),
+          (
+            at-among N 9 nine (h 9 (omega arith, omega arith)),
+            (at-among N 10 ten (h 10 (omega arith, omega arith)), (at-among N 11 eleven (h 11 (omega arith, omega arith)), tt)),
+          ),
         ),
       )
 
-  stages-among : Among 3 11 (first (stages r ts))
-  stages-among =
-      or-among 3 11 (at 3 three) (orElse (at 4 four) (orElse five rest)) (at-among 3 11 3 three (omega arith) (omega arith))
-      (or-among 3 11 (at 4 four) (orElse five rest) (at-among 3 11 4 four (omega arith) (omega arith))
-      (or-among 3 11 five rest (broken-among 3 11 ts (omega arith) (omega arith)) (rest-among 3 (omega arith))))
+  -- 3, 4 and the texts, whose faults have the numbers N
+  module _ (N : ℕ → Type 0) (h : (n : ℕ) → BeforeTotals n → N n) where
+    three-among : Among N (at 3 three)
+    three-among = at-among N 3 three (h 3 (inl (omega arith, omega arith)))
 
-  profile-late : InProfile ts → Among 6 11 (first (stages r ts))
-  profile-late p = let q = profile-passes ts p in rw (q .batches, q .transactions, q .texts) (rest-among 6 (omega arith))
+    four-among : Among N (at 4 four)
+    four-among = at-among N 4 four (h 4 (inl (omega arith, omega arith)))
+
+    texts-among : Among N (firstBroken ts)
+    texts-among = broken-among N ts (λ f. h (flawNumber f) (inr (flaw-number f)))
+
+  stages-among : Among CheckNumber (first (stages r ts))
+  stages-among =
+      or-among CheckNumber (at 3 three) (orElse (at 4 four) (orElse (firstBroken ts) rest)) (three-among CheckNumber (λ n. inl))
+      (or-among CheckNumber (at 4 four) (orElse (firstBroken ts) rest) (four-among CheckNumber (λ n. inl))
+      (or-among CheckNumber (firstBroken ts) rest (texts-among CheckNumber (λ n. inl)) (rest-among CheckNumber (λ n. inr))))
+
+  profile-late : InProfile ts → Among (Between 6 11) (first (stages r ts))
+  profile-late p = let q = profile-passes ts p in rw (q .batches, q .transactions, q .texts) (rest-among (Between 6 11) (λ n h. h))
 
   profile-early : Late (first (stages r ts)) → Passes ts
   profile-early h =
-      let x : (at 3 three ≡ none) × Late (orElse (at 4 four) (orElse five rest)) = early (at 3 three) (orElse (at 4 four) (orElse five rest)) (at-among 0 5 3 three (omega arith) (omega arith)) h in
-      let y : (at 4 four ≡ none) × Late (orElse five rest) = early (at 4 four) (orElse five rest) (at-among 0 5 4 four (omega arith) (omega arith)) (x .1) in
-      let z : (five ≡ none) × Late rest = early five rest (broken-among 0 5 ts (omega arith) (omega arith)) (y .1) in
+      let x : (at 3 three ≡ none) × Late (orElse (at 4 four) (orElse (firstBroken ts) rest)) =
+      early (at 3 three) (orElse (at 4 four) (orElse (firstBroken ts) rest)) (three-among BeforeTotals (λ n h. h)) h
+      in
+      let y : (at 4 four ≡ none) × Late (orElse (firstBroken ts) rest) = early (at 4 four) (orElse (firstBroken ts) rest) (four-among BeforeTotals (λ n h. h)) (x .1) in
+      let z : (firstBroken ts ≡ none) × Late rest = early (firstBroken ts) rest (texts-among BeforeTotals (λ n h. h)) (y .1) in
       record { batches = x .0; transactions = y .0; texts = z .0 }
 
 -- ─── 3. The theorems ───
 
-refused-found : (o : Option Fault) (y : Totals) (f : Fault) → verdict o y ≡ refused f → o ≡ some f
+pub refused-found : (o : Option Fault) (y : Totals) (f : Fault) → verdict o y ≡ refused f → o ≡ some f
 refused-found none y f e = absurd (let z : _≡_ {A = ℕ} 0 1 = cc in omega arith)
 refused-found (some g) y f e = cc
 
-found-refused : (o : Option Fault) (y : Totals) (f : Fault) → o ≡ some f → verdict o y ≡ refused f
+pub found-refused : (o : Option Fault) (y : Totals) (f : Fault) → o ≡ some f → verdict o y ≡ refused f
 found-refused o y f e = rw e refl
+
+-- none of the numbers from 6 on stands before 6
+late-number : (n : ℕ) → Between 6 11 n → BeforeTotals n → ⊥
+late-number n a (inl b) = omega arith
+late-number n a (inr b) = omega arith
+
+-- the three ways in which a check ends
+abbrev pub Way : Bytes → List ℕ → List ℕ → Verdict → List ℕ → List ℕ → Type 0
+Way s slips rows v a b = Long s slips rows v a b ⊎ (OutOfForm s slips rows v a b ⊎ ByStages s slips rows v a b)
 
 module _ (s : Bytes) (slips rows : List ℕ) (v : Verdict) (a b : List ℕ) (c : Checks s slips rows v a b) where
   abbrev room : Room
   room = roomOf slips rows
 
-  found : (q : ByStages s slips rows v a b) (f : Fault) → v ≡ refused f → first (stages room (saidBy (q .read))) ≡ some f
+  pub found : (q : ByStages s slips rows v a b) (f : Fault) → v ≡ refused f → first (stages room (saidBy (q .read))) ≡ some f
   found q f e = refused-found _ _ f (sym (q .answer) ∙ e)
 
-  pub refusal-number : (f : Fault) → v ≡ refused f → (1 ≤ f .number) × (f .number ≤ 11)
-  unfolding Among
+  pub refusal-number : (f : Fault) → v ≡ refused f → CheckNumber (f .number)
   refusal-number f e = go (c .case)
     where
-      go : Long s slips rows v a b ⊎ (OutOfForm s slips rows v a b ⊎ ByStages s slips rows v a b) → (1 ≤ f .number) × (f .number ≤ 11)
-      go (inl q) = some-among 1 11 (fault 1 mostBytes) (omega arith) (omega arith) f (let h = sym (q .answer) ∙ e in cc)
-      go (inr (inl q)) = some-among 1 11 (fault 2 (q .place)) (omega arith) (omega arith) f (let h = sym (q .answer) ∙ e in cc)
-      go (inr (inr q)) = let h = stages-among room (saidBy (q .read)) f (found q f e) in (omega (arith, h .0), h .1)
+      go : Way s slips rows v a b → CheckNumber (f .number)
+      go (inl q) = some-among CheckNumber (fault 1 mostBytes) (inl (inl (omega arith, omega arith))) f (let h = sym (q .answer) ∙ e in cc)
+      go (inr (inl q)) = some-among CheckNumber (fault 2 (q .place)) (inl (inl (omega arith, omega arith))) f (let h = sym (q .answer) ∙ e in cc)
+      go (inr (inr q)) = stages-among room (saidBy (q .read)) f (found q f e)
 
-  pub belongs-exactly : ((m : Message Document) × Belongs s m) ↔ ((f : Fault) → v ≡ refused f → 6 ≤ f .number)
-  unfolding Among Late
+  pub belongs-exactly : ((m : Message Document) × Belongs s m) ↔ ((f : Fault) → v ≡ refused f → BeforeTotals (f .number) → ⊥)
+  unfolding Late
   belongs-exactly = (to (c .case), from (c .case))
     where
-      to : Long s slips rows v a b ⊎ (OutOfForm s slips rows v a b ⊎ ByStages s slips rows v a b) → (m : Message Document) × Belongs s m → (f : Fault) → v ≡ refused f → 6 ≤ f .number
+      to : Way s slips rows v a b → (m : Message Document) × Belongs s m → (f : Fault) → v ≡ refused f → BeforeTotals (f .number) → ⊥
       to (inl q) (m, p) f e = absurd (omega (arith, q .long, p .short))
       to (inr (inl q)) (m, p) f e = absurd (q .not-of-form .0 (m, p .bytes))
       to (inr (inr q)) (m, p) f e =
-          profile-late room (saidBy (q .read)) (subst (λ (ts : List Told). InProfile ts) (same-said m (q .read) s (p .bytes) (q .bytes)) (p .profile)) f (found q f e) .0
+          late-number (f .number)
+          (profile-late room (saidBy (q .read)) (subst (λ (ts : List Told). InProfile ts) (same-said m (q .read) s (p .bytes) (q .bytes)) (p .profile)) f (found q f e))
 
-      from : Long s slips rows v a b ⊎ (OutOfForm s slips rows v a b ⊎ ByStages s slips rows v a b) → ((f : Fault) → v ≡ refused f → 6 ≤ f .number) → (m : Message Document) × Belongs s m
-      from (inl q) h = absurd (omega (arith, h _ (q .answer)))
-      from (inr (inl q)) h = absurd (omega (arith, h _ (q .answer)))
+      from : Way s slips rows v a b → ((f : Fault) → v ≡ refused f → BeforeTotals (f .number) → ⊥) → (m : Message Document) × Belongs s m
+      from (inl q) h = absurd (h _ (q .answer) (inl (omega arith, omega arith)))
+      from (inr (inl q)) h = absurd (h _ (q .answer) (inl (omega arith, omega arith)))
       from (inr (inr q)) h =
           (q .read, record { short = q .short; bytes = q .bytes; profile = in-profile (saidBy (q .read)) (profile-early room (saidBy (q .read)) (λ f e. h f (q .answer ∙ found-refused _ _ f e))) })

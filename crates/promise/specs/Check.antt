@@ -45,7 +45,7 @@ module _ (s : Bytes) (slips rows : List ℕ) (v : Verdict) (slips′ rows′ : L
     pub slips-kept : slips′ ≡ slips
     pub rows-kept : rows′ ≡ rows
 
-  -- else: the message is read, and the stages 3 to 11 decide
+  -- else: the message is read, and the stages from 3 on decide
   pub record ByStages : Type 0 where
     pub short : length s ≤ mostBytes
     pub read : Message Document

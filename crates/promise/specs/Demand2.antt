@@ -1,7 +1,7 @@
 -- DEMAND 2, as definitions: what belongs to the profile, and that every declared count and sum equals the exact one. To be believed.
 --   Agrees d n      a declaration is absent, or states the number n
 --   AllAgree ts     every declared count and sum, per batch and overall, is the exact one
---   InProfile ts    what the message says meets no refusal of 3, 4 and 5
+--   InProfile ts    what the message says meets none of 3, 4 and 51 to 58
 --   Enough r ts     the tables are long enough
 --   Belongs s m     the message s, read as m, belongs to the profile: it meets no refusal that stands before 6
 use Prim.Native.Nat.{ℕ, _*_, _≤_}

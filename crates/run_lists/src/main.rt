@@ -1,5 +1,5 @@
 // Judges the lists that the arguments name, each `CEILING:NAME`, the ceiling in digits and the name of a file. Prints the argument, and what the list comes to:
-//   NO number place         the first of refusals 21 to 26
+//   NO number place         the first refusal that is met; of a value NO number line field
 //   OK collections batches  and, for each batch in order, a line `B`: its number from 1, and its collections, counted from 1 in the list
 ghost use mathlib.Core.Path.{_≡_};
 ghost use Prim.Native.Nat.{_+_};
@@ -8,8 +8,8 @@ ghost use Rattle.daylist.specs.declared.JudgedList.the-variants.{Good};
 ghost use Rattle.daylist.specs.Stages.{judgedList};
 use daylist::JudgedList;
 use prints::print;
+use prints::print_list_refused;
 use prints::print_number;
-use prints::print_refused;
 use profile::ListRefusal;
 use profile::Profile;
 
@@ -67,7 +67,11 @@ fn print_good(list: &[u8], ceiling: u64, collections: usize)
 }
 
 fn print_refusal(refusal: ListRefusal) {
-    print_refused(refusal.number(), refusal.place() as u64);
+    print_list_refused(
+        refusal.number(),
+        refusal.place() as u64,
+        refusal.field() as u64,
+    );
 }
 
 fn print_list(list: &[u8], ceiling: u64) {

@@ -6,19 +6,19 @@
 use Prim.Native.Nat.{ℕ}
 use Prim.Native.String.{String}
 use mathlib.Core.Bool.{Bool, true, false, not, _&&_}
-use mathlib.Core.List.{List, [], _∷_, map}
+use mathlib.Core.List.{List, [], _∷_, _++_, map}
 use lib.Dec.{T, eqb}
 use Rattle.laws.specs.Bytes.{Bytes, ascii, same}
-use Rattle.laws.specs.Lists.{All}
-use Rattle.profile.specs.Refusals.{listNumberOf}
-use Rattle.profile.specs.declared.ListRefusal.the-variants.{Value}
+use Rattle.laws.specs.Lists.{All, number}
+use Rattle.profile.specs.Refusals.{listNumberOf, listPlaceOf, listFieldOf}
 use Rattle.text.specs.declared.Judged.{Judged}
-use Rattle.text.specs.declared.Judged.the-variants.{Good, Bad}
 use Rattle.text.specs.Rules.{good, leaves, iban, amount, sum, date, identifier, bic}
 use Rattle.tree.specs.Form.{NotOfForm}
 use Rattle.tree.specs.Pain008.{Document, declaration}
-use Rattle.daylist.specs.Lead.{leadCents}
-use Rattle.bundle.specs.Bundle.{bundle, number}
+use Rattle.daylist.specs.declared.JudgedList.{JudgedList}
+use Rattle.daylist.specs.declared.JudgedList.the-variants.{Good, Refused}
+use Rattle.daylist.specs.Stages.{judgedList}
+use Rattle.bundle.specs.Bundle.{bundle}
 
 pub data Case : Type 0 where
   two : String → ℕ → Case
@@ -44,10 +44,21 @@ alike [] (y ∷ ys) = false
 alike (x ∷ xs) [] = false
 alike (x ∷ xs) (y ∷ ys) = same x y && alike xs ys
 
--- the number with which a list is refused for a value; 0 where the value is good
-abbrev pub refusal : Judged → ℕ
-refusal (Good n) = 0
-refusal (Bad f) = listNumberOf (Value f 2)
+-- number, line and field of a list's refusal; nothing where it is good
+abbrev pub refusal : JudgedList → List ℕ
+refusal (Good n) = []
+refusal (Refused r) = listNumberOf r ∷ listPlaceOf r ∷ listFieldOf r ∷ []
+
+-- a list of a creditor and one collection, whose cents are these digits
+abbrev pub withCents : String → List ℕ
+withCents cents =
+    refusal (judgedList (
+    ascii "010B52554E2D323032362F303713323032362D31312D30325430393A33303A3030104C65616B204C616273204275726561750E4F274E65696C2054657374696E67"
+    ++ (ascii "1042453638353339303037353437303334084242525542454242144245363930303030353044303030303030303038"
+    ++ (10 ∷ (ascii "020001" ++ (ascii cents
+    ++ (ascii "0A323032362D31312D3130054645452031074D2D35353535350A323030392D30392D3031000E4D72204465626974657572204E31"
+    ++ (ascii "16474232394E57424B36303136313333313932363831390A46616374757265204E31" ++ (10 ∷ []))))))))
+    500)
 
 -- ─── the list ───
 
@@ -74,8 +85,8 @@ cases =
     ∷ (9, breaks identifier "/A")
     ∷ (10, obeys bic "BANKGB2L")
     ∷ (11, test (alike (itemsOf 2 (1 ∷ 1 ∷ 2 ∷ 1 ∷ 2 ∷ 1 ∷ 1 ∷ [])) ((1 ∷ 2 ∷ []) ∷ (4 ∷ 6 ∷ []) ∷ (7 ∷ []) ∷ (3 ∷ 5 ∷ []) ∷ [])))
-    ∷ (12, test (good (leadCents (0x17 ∷ 0x48 ∷ 0x76 ∷ 0xe7 ∷ 0xff ∷ []))))
-    ∷ (12, test (eqb (refusal (leadCents (0x17 ∷ 0x48 ∷ 0x76 ∷ 0xe8 ∷ 0x00 ∷ []))) 26))
+    ∷ (12, test (same (withCents "174876E7FF") []))
+    ∷ (12, test (same (withCents "174876E800") (54 ∷ 2 ∷ 3 ∷ [])))
     ∷ []
 
 -- THE CLAIM

@@ -1,7 +1,7 @@
 -- TEXTS AT BOTH SIDES OF EACH BOUND, computed: of every rule a table of texts and of what it judges them to be.
 --   r judges t      the rule r judges each text of the table t as the table says
 --   letter-set      of the 256 bytes a-z A-Z 0-9 / - ? : ( ) . , ' + and space are letters, 73 in all
---   lengths         plain texts of the most bytes, of one more, and of none; only an identifier looks at slashes, and spaces count
+--   lengths         plain texts of the most bytes, of one more, whatever its letters, and of none; only an identifier looks at slashes, and spaces count
 --   identifiers, counts, sums, amounts, dates, times, ibans, bics, creditor-identifiers, codes
 use Prim.Native.String.{String}
 use mathlib.Core.Bool.{_||_, Bool·beq}
@@ -33,15 +33,15 @@ letter-set = (tt, refl)
 
 pub lengths :
     (judged Identifier (replicate 35 65) ≡ Good 0) × (judged Identifier (replicate 36 65) ≡ Bad Length)
-    × (judged Name (replicate 70 32) ≡ Good 0) × (judged Name (replicate 71 32) ≡ Bad Length)
+    × (judged Name (replicate 70 32) ≡ Good 0) × (judged Name (replicate 71 32) ≡ Bad Length) × (judged Name (95 ∷ replicate 70 32) ≡ Bad Length)
     × (judged Remittance (replicate 140 47) ≡ Good 0) × (judged Remittance (replicate 141 47) ≡ Bad Length)
     × (judged Identifier [] ≡ Bad Length) × (judged Name [] ≡ Bad Length) × (judged Remittance [] ≡ Bad Length)
-lengths = (refl, refl, refl, refl, refl, refl, refl, refl, refl)
+lengths = (refl, refl, refl, refl, refl, refl, refl, refl, refl, refl)
 
 -- the flaws in order: length, letters, slashes
 pub identifiers : Identifier judges (
     ("A/B", Good 0) ∷ (" ", Good 0) ∷ ("/A", Bad Slash) ∷ ("A/", Bad Slash) ∷ ("A//B", Bad Slash) ∷ ("/", Bad Slash)
-    ∷ ("/A_", Bad Letter) ∷ ("_23456789_123456789_123456789_12345/", Bad Length)
+    ∷ ("/A_", Bad Letter) ∷ ("/23456789_123456789_123456789_12345", Bad Letter) ∷ ("_23456789_123456789_123456789_12345/", Bad Length)
     ∷ [])
 identifiers = refl
 
@@ -95,7 +95,7 @@ times = refl
 pub ibans : Iban judges (
     ("BE540", Good 0) ∷ ("BE54", Bad Shape) ∷ ("LC04ABCDEFGHIJKLMNOPQRSTUVWXYZ0123", Good 0) ∷ ("LC08ABCDEFGHIJKLMNOPQRSTUVWXYZ01234", Bad Shape)
     ∷ ("GB29NWBK60161331926819", Good 0) ∷ ("GB29nwbk60161331926819", Good 0) ∷ ("gb29NWBK60161331926819", Bad Shape)
-    ∷ ("GB92NWBK60161331926819", Bad CheckDigits) ∷ ("BE550", Bad CheckDigits) ∷ ("GB29 NWBK60161331926819", Bad Shape) ∷ ("", Bad Shape)
+    ∷ ("GB92NWBK60161331926819", Bad CheckDigits) ∷ ("BE550", Bad CheckDigits) ∷ ("GB29 NWBK60161331926819", Bad Shape) ∷ ("gb92NWBK60161331926819", Bad Shape) ∷ ("", Bad Shape)
     ∷ [])
 ibans = refl
 

@@ -1,5 +1,6 @@
 -- THE TEXT RULES of document 01, section "Texts", in its order. To be believed; definitions only.
 -- A rule judges a text: `Good n`, n being the number that the text states (0 where it states none), or `Bad` with the kind of the first test that fails.
+-- "For plain texts the tests go length in bytes, then letter set, then slashes; codes, numbers, dates and shapes have one test each, and the check digits follow the shape" (request 1).
 --   identifier, name, remittance         plain texts of the letter set
 --   count, sum, amount                   NbOfTxs states its number, CtrlSum and InstdAmt their cents
 --   date, time                           a date states year, month and day as the number yyyymmdd

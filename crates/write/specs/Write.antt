@@ -1,11 +1,11 @@
--- WHAT THE WRITER ANSWERS, AND LEAVES IN THE OUTPUT. To be believed; definitions only. A refusal is reported by document 01's number and place: 27 and 28 here, 21 to 26 by profile's `listFaultOf`.
+-- WHAT THE WRITER ANSWERS, AND LEAVES IN THE OUTPUT. To be believed; definitions only. A refusal is reported by the papers' number, place and field: 27 and 28 here, the others by profile's `listFaultOf`.
 --   success n, refused f   an answer: the message is n bytes long; the refusal f
 --   answered r             what the code's answer r says
 --   batchesNeeded s c      how many batches the list s needs at the ceiling c
 --   fitted m room          28: the message m where there is room for it
 --   bundled n a            27: at most so many batches
---   asJudged j a           21 to 26: the list as it is judged
---   answerFor s c room     THE ANSWER for the list s at the ceiling c, with so much room: the first refusal of 21 to 28, or the length of the message
+--   asJudged j a           21 to 25 and 51 to 58: the list as it is judged
+--   answerFor s c room     THE ANSWER for the list s at the ceiling c, with so much room: the first refusal, or the length of the message
 --   outputFor s c out      THE OUTPUT afterwards: the message at its front and otherwise as it was; on refusal as it was
 use Prim.Native.Nat.{ℕ}
 use mathlib.Core.Bool.{true, false}
@@ -43,7 +43,7 @@ fitted m room = elim (leb (length m) room) [ true ↦ success (length m) | false
 abbrev pub bundled : ℕ → Answer → Answer
 bundled n a = elim (leb n mostBatches) [ true ↦ a | false ↦ refused (fault 27 n) ]
 
--- 21 to 26
+-- 21 to 25 and 51 to 58
 abbrev pub asJudged : JudgedList → Answer → Answer
 asJudged (Good n) a = a
 asJudged (Bad r) a = refused (listFaultOf r)

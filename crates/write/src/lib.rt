@@ -81,7 +81,7 @@ fn write_good(list: &[u8], ceiling: u64, collections: usize, out: &mut [u8]) -> 
     )
 }
 
-// Writes the message for the list at the ceiling, and answers its length; or refuses, with the first of 21 to 28 that is met, and writes no byte.
+// Writes the message for the list at the ceiling, and answers its length; or refuses, with the first refusal that is met, and writes no byte.
 // Bytes of the output beyond the message stay.
 pub fn write(list: &[u8], ceiling: u64, out: &mut [u8]) -> Written
     ensures { λ r. ⌜ answered r ≡ answerFor (now (list .entry)) ceiling (length (now (out .entry))) ⌝ }

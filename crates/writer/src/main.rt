@@ -1,10 +1,10 @@
 // Writes the message for the day list on standard input, at the ceiling that the argument says in digits. Prints
 //   the message, with nothing after it
-//   NO number place   the first of refusals 21 to 27
+//   NO number place   the first refusal that is met; of a value NO number line field
 //   TOO LONG          the list or its message has more than 65,536 bytes
 use libc::STDIN_FILENO;
 use prints::print;
-use prints::print_refused;
+use prints::print_list_refused;
 use profile::ListRefusal;
 use profile::Profile;
 use write::Written;
@@ -21,7 +21,7 @@ fn print_refusal(refusal: ListRefusal) {
         print(b"TOO LONG\n");
         return;
     }
-    print_refused(number, refusal.place() as u64);
+    print_list_refused(number, refusal.place() as u64, refusal.field() as u64);
 }
 
 fn print_front(out: &[u8], length: usize) {

@@ -10,8 +10,8 @@ shared-slice-read-n c = search needs
 returns : tie.Need-returns
 returns c = text-none _ _ (c .if1 .taken)
 
-flaw-of-requires : tie.Need-flaw-of-requires
-flaw-of-requires c κs = search needs
+of-number-requires : tie.Need-of-number-requires
+of-number-requires c κs = search needs
 
 add-t7 : tie.Need-add-t7
 add-t7 c = search needs
@@ -23,7 +23,7 @@ shared-slice-read-t5 : tie.Need-shared-slice-read-t5
 shared-slice-read-t5 c = search needs
 
 returns-2 : tie.Need-returns-2
-returns-2 c = text-some _ _ _ (c .before .before .if1 .left) (c .before .flaw-of .ensures)
+returns-2 c = text-some _ _ _ (c .before .before .if1 .left) (c .before .of-number .ensures)
 
 pub text-stage-spec : {M : Type 1} → statement M
 text-stage-spec =
@@ -31,7 +31,7 @@ text-stage-spec =
     (tie.spec
     shared-slice-read-n
     returns
-    flaw-of-requires
+    of-number-requires
     add-t7
     mul-t8
     shared-slice-read-t5

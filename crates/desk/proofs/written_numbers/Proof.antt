@@ -15,11 +15,14 @@ number-requires c κs = search needs
 place-requires : tie.Need-place-requires
 place-requires c κs = search needs
 
+field-requires : tie.Need-field-requires
+field-requires c κs = search needs
+
 returns : tie.Need-returns
 returns c = rw (c .before .written .given .1)
 
 returns-2 : tie.Need-returns-2
-returns-2 c = rw (c .before .number .ensures, c .place .ensures, c .before .before .before .written2 .given .1)
+returns-2 c = rw (c .before .before .number .ensures, c .before .place .ensures, c .field .ensures, c .before .before .before .before .written2 .given .1)
 
 pub written-numbers-spec : {M : Type 1} → statement M
 written-numbers-spec =
@@ -29,5 +32,6 @@ written-numbers-spec =
     enum-known-written-2
     number-requires
     place-requires
+    field-requires
     returns
     returns-2)

@@ -40,13 +40,13 @@ judge-line-requires c κs = search needs
 enum-known-flaw : tie.Need-enum-known-flaw Inv-loop μ-loop
 enum-known-flaw c = search needs
 
-add-t13 : tie.Need-add-t13 Inv-loop μ-loop
-add-t13 c = search needs
+add-t14 : tie.Need-add-t14 Inv-loop μ-loop
+add-t14 c = search needs
 
 returns : tie.Need-returns Inv-loop μ-loop
 returns c =
     let l = c .before .before .before .before .before .before .before .loop in
-    values-bad _ (l .at) _ (c .before .before .before .before .before .line-end .ensures .0) (l .done) _ (c .before .before .before .before .before .before .loop-test .taken)
+    values-bad _ (l .at) _ (c .before .before .before .before .before .line-end .ensures .0) (l .done) _ _ (c .before .before .before .before .before .before .loop-test .taken)
     (sym (c .before .before .before .judge-line .ensures) ∙ c .before .flaw .given .1) ∙ sym (l .inv .1)
 
 enum-told : tie.Need-enum-told Inv-loop μ-loop
@@ -64,7 +64,7 @@ loop-less c = omega arith
 loop-again : tie.Need-loop-again Inv-loop μ-loop
 loop-again c =
     let l = c .before .before .before .before .before .before .loop in
-    (omega arith, l .inv .1 ∙ values-go _ (l .at) _ (c .before .before .before .before .line-end .ensures .0) (l .done) _ (c .before .before .before .before .before .loop-test .taken) (sym (c .before .before .judge-line .ensures) ∙ c .enum-told .given .1))
+    (omega arith, l .inv .1 ∙ values-go _ (l .at) _ (c .before .before .before .before .line-end .ensures .0) (l .done) (c .before .before .before .before .before .loop-test .taken) (sym (c .before .before .judge-line .ensures) ∙ c .enum-told .given .1))
 
 returns-2 : tie.Need-returns-2 Inv-loop μ-loop
 returns-2 c = values-end _ (c .before .loop .at) (c .before .loop .done) (c .loop-test .left) ∙ sym (c .before .loop .inv .1)
@@ -83,7 +83,7 @@ judge-values-spec =
     add-judge-line
     judge-line-requires
     enum-known-flaw
-    add-t13
+    add-t14
     returns
     enum-told
     add-done

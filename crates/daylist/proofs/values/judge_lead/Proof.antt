@@ -1,5 +1,5 @@
 -- `daylist::values::judge_lead` meets its contract. The three fields of a collection are judged in order.
-use Rattle.text.specs.declared.Judged.the-variants.{Good}
+use Rattle.daylist.specs.declared.JudgedLine.the-variants.{Good}
 use Rattle.profile.specs.Limits.{mostCents}
 use lib.ListN.{getD, take, drop}
 use Rattle.frames.specs.Frames.{leadOf, frameOf}
@@ -17,7 +17,7 @@ use Rattle.daylist.proofs.values.judge_lead.Tie as tie
 
 -- the three fields of a collection
 lead : (c : tie.Else1) → (let s = unhex (c .before .before .args .line .now) in let n = c .before .before .args .number in
-    firstBad (judgedLead n (leadOf (frameOf n) s)) ≡ else (leadScheme (getD s 1 0)) (else (leadSequence (getD s 2 0)) (else (leadCents (take 5 (drop 3 s))) (Good 0))))
+    firstBad 0 (judgedLead n (leadOf (frameOf n) s)) ≡ else 1 (leadScheme (getD s 1 0)) (else 2 (leadSequence (getD s 2 0)) (else 3 (leadCents (take 5 (drop 3 s))) Good)))
 lead c = lead-is (c .before .before .args .number) (unhex (c .before .before .args .line .now)) (c .if1 .left)
 
 returns : tie.Need-returns

@@ -10,8 +10,8 @@ slice-read-if1 c = search needs
 returns : tie.Need-returns
 returns c = flaw-kept (c .before .before .before .args .heard .now) (c .before .before .before .pre) _ (c .if1 .taken)
 
-flaw-number-requires : tie.Need-flaw-number-requires
-flaw-number-requires c κs = search needs
+number-requires : tie.Need-number-requires
+number-requires c κs = search needs
 
 slice-write-heard : tie.Need-slice-write-heard
 slice-write-heard c = search needs
@@ -29,7 +29,7 @@ same-length : tie.Need-same-length
 same-length c = search needs
 
 returns-2 : tie.Need-returns-2
-returns-2 c = flaw-noted (c .before .before .before .before .args .heard .now) (c .before .before .before .before .pre) _ _ _ (c .before .if1 .left) (c .flaw-number .ensures _)
+returns-2 c = let x = c .before .before .before .before in flaw-noted (x .args .heard .now) (x .pre) _ _ (x .args .flaw) (c .before .if1 .left) (c .number .ensures)
 
 pub note-flaw-spec : {M : Type 1} → statement M
 note-flaw-spec =
@@ -37,7 +37,7 @@ note-flaw-spec =
     (tie.spec
     slice-read-if1
     returns
-    flaw-number-requires
+    number-requires
     slice-write-heard
     add-heard
     mul-heard
