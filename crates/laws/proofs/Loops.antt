@@ -3,7 +3,7 @@
 --   all-end                             a loop that looks at every byte of a class
 --   span-stop, span-go, span-end        a loop that counts the bytes of a class at the front
 --   agree-stop, agree-go, agree-end     a loop that holds two byte strings against each other; agree-length, agree-differ: their lengths
---   all-at, all-take, all-drop          every byte of a class: at an index, of a part
+--   all-at, all-take, all-drop          every byte of a class: at an index, of a part; all-append: of two byte strings; all-widen: of a wider class
 --   all-span, span-le                   the front of a class: its bytes, its length; span-whole, span-part: where it is the whole, and where not
 --   agree-take, agree-drop              two byte strings that agree do so in each part
 --   same-eq                             the same bytes are equal
@@ -12,7 +12,7 @@ use native.Mathlib.Nat.{add-zero, not-suc-le-zero, le-of-suc-le-suc}
 use native.Mathlib.Numerals.{add-one}
 use native.Mathlib.Omega.{arith}
 use mathlib.Core.Bool.{Bool, true, false, _&&_}
-use mathlib.Core.List.{[], _∷_}
+use mathlib.Core.List.{[], _∷_, _++_}
 use mathlib.Core.Path.{_≡_, refl, ap, ap₂}
 use lib.Dec.{T, eqb, eqb→eq}
 use lib.ListN.{length, take, drop, getD, length-drop, drop-of-length-le}
@@ -90,6 +90,14 @@ module _ (p : ℕ → Bool) where
   all-drop zero s t = t
   all-drop (suc n) [] t = tt
   all-drop (suc n) (c ∷ s) t = all-drop n s (and-r (p c) (all p s) t)
+
+  pub all-append : (s t : Bytes) → T (all p s) → T (all p t) → T (all p (s ++ t))
+  all-append [] t a b = b
+  all-append (c ∷ s) t a b = and-both (p c) (all p (s ++ t)) (and-l (p c) (all p s) a) (all-append s t (and-r (p c) (all p s) a) b)
+
+  pub all-widen : (q : ℕ → Bool) → ((c : ℕ) → T (p c) → T (q c)) → (s : Bytes) → T (all p s) → T (all q s)
+  all-widen q f [] t = tt
+  all-widen q f (c ∷ s) t = and-both (q c) (all q s) (f c (and-l (p c) (all p s) t)) (all-widen q f s (and-r (p c) (all p s) t))
 
   -- the front of a class is of that class
   pub all-span : (s : Bytes) → T (all p (take (span p s) s))

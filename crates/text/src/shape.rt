@@ -1,7 +1,14 @@
 // IBAN, BICFI and creditor identifier.
+ghost use Prim.Native.Nat.{_≤_};
+ghost use mathlib.Core.Bool.{true};
+ghost use mathlib.Core.List.{_++_};
 ghost use mathlib.Core.Path.{_≡_};
+ghost use lib.Dec.{eqb};
+ghost use lib.ListN.{length, take, drop};
+ghost use Rattle.laws.specs.Bytes.{all};
 ghost use Rattle.marks.specs.Classes.{of};
-ghost use Rattle.text.specs.Rules.{iban, bic, creditorIdentifier};
+ghost use Rattle.marks.specs.Marks.{letterOrDigit};
+ghost use Rattle.text.specs.Rules.{leaves, iban, bic, creditorIdentifier};
 ghost use Rattle.text.specs.Shapes.{shaped};
 use crate::Judged;
 use marks::Class;
@@ -24,6 +31,15 @@ fn is_shaped(text: &[u8], pattern: &[u8], longest: usize, class: Class) -> bool
     marks::run(class, &text[n..]) == text.len() - n
 }
 
+// The bytes from `rest` on and the first four after them spell a number that leaves 1 on division by 97.
+fn leaves_one(text: &[u8], rest: usize) -> bool
+    requires { ⌜ (4 ≤ rest) × (rest ≤ length (now text)) × (all letterOrDigit (now text) ≡ true) ⌝ }
+    ensures { λ r. ⌜ r ≡ eqb (leaves (take 4 (now (text .entry)) ++ drop rest (now (text .entry)))) 1 ⌝ }
+{
+    let left = marks::remainder(0, &text[rest..]);
+    marks::remainder(left, &text[..4]) == 1
+}
+
 // Two capitals, two digits, 1 to 30 letters or digits; the first four moved to the end, the number leaves 1 on division by 97.
 pub fn iban(text: &[u8]) -> Judged
     ensures { λ r. ⌜ r ≡ iban (now (text .entry)) ⌝ }
@@ -31,8 +47,7 @@ pub fn iban(text: &[u8]) -> Judged
     if !is_shaped(text, b"AADD", 30, Class::LetterOrDigit) {
         return Judged::Bad(Flaw::Shape);
     }
-    let left = marks::remainder(0, &text[4..]);
-    if marks::remainder(left, &text[..4]) != 1 {
+    if !leaves_one(text, 4) {
         return Judged::Bad(Flaw::CheckDigits);
     }
     Judged::Good(0)

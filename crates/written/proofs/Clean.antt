@@ -1,6 +1,5 @@
 -- TEXTS WITHOUT THE BYTE `<`: of such a text the tree leaves nothing out.
 --   clean s, Clean x, CleanCreditor cr   no byte of the text s is `<`; no text of the collection x, or of the creditor cr, has one
---   all-append                           every byte of two texts, one after the other, is of a class
 --   decimal-cases, decimal-all           a written number by cases, and what holds of each of its digits
 --   keep-clean                           nothing of a clean text is left out
 --   digit-clean, decimal-clean, euros-clean, batch-id-clean, scheme-clean, sequence-clean   numbers and words are clean
@@ -15,6 +14,7 @@ use borrow.Author.Tests.{ltb-true, ltb-false, ne-eqb}
 use Rattle.laws.specs.Bytes.{Bytes, all}
 use Rattle.laws.specs.Lists.{keep}
 use Rattle.laws.proofs.Tests.{and-l, and-r, and-both, T-true}
+use Rattle.laws.proofs.Loops.{all-append}
 use Rattle.put.specs.Numerals.{lastDigit, decimalOf, decimal, euros, batchId}
 use Rattle.tree.specs.Form.{inText}
 use Rattle.collections.specs.Listed.{Collection, Creditor}
@@ -52,10 +52,6 @@ pub record CleanCreditor (cr : Creditor) : Type 0 where
 
 pub digit-clean : (n : ℕ) → T (inText (lastDigit n))
 digit-clean n = rw (ne-eqb (48 + n % 10) 60 (λ e. omega (arith, mod-lt n {m = 10} (omega arith)))) tt
-
-pub all-append : (p : ℕ → Bool) (s t : Bytes) → T (all p s) → T (all p t) → T (all p (s ++ t))
-all-append p [] t a b = b
-all-append p (c ∷ s) t a b = and-both (p c) (all p (s ++ t)) (and-l (p c) (all p s) a) (all-append p s t (and-r (p c) (all p s) a) b)
 
 -- by cases on whether one digit is left
 pub decimal-cases : (P : Bytes → Type 0) (most n : ℕ) → (n < 10 → P (lastDigit n ∷ [])) → (10 ≤ n → P (decimalOf most (n / 10) ++ (lastDigit n ∷ []))) → P (decimalOf (suc most) n)

@@ -11,8 +11,8 @@ use mathlib.Core.Path.{subst}
 use lib.Dec.{T, T-not, leb, leb→le}
 use lib.ListN.{length, take, drop, length-append, take-append-drop}
 use Rattle.laws.specs.Bytes.{Bytes, ascii, between, all, same}
-use Rattle.laws.proofs.Tests.{bool-cases, eqb-cases, and-l, and-r, and-both}
-use Rattle.laws.proofs.Loops.{agree-length}
+use Rattle.laws.proofs.Tests.{bool-cases, eqb-cases, and-l, and-r}
+use Rattle.laws.proofs.Loops.{agree-length, all-append, all-widen}
 use Rattle.marks.specs.Marks.{capitalOrDigit, letterOrDigit, letter, mark, fits}
 use Rattle.marks.proofs.Classes.{fits-all}
 use Rattle.profile.specs.declared.Flaw.{Flaw}
@@ -21,7 +21,7 @@ use Rattle.text.specs.Rules.{must, good, plain, identifier, name, remittance, v
 use Rattle.tree.specs.Form.{inText}
 use Rattle.collections.specs.Listed.{Collection, Creditor}
 use Rattle.collections.specs.Good.{emptyOr, GoodCollection, GoodCreditor}
-use Rattle.written.proofs.Clean.{clean, all-append, Clean, CleanCreditor}
+use Rattle.written.proofs.Clean.{clean, Clean, CleanCreditor}
 
 pub record Short (n : ℕ) (s : Bytes) : Type 0 where
   pub clean : T (clean s)
@@ -51,8 +51,7 @@ not-60 : (p : ℕ → Bool) → (T (p 60) → ⊥) → (c : ℕ) → T (p c) →
 not-60 p d c t = eqb-cases (λ z. T (not z)) c 60 (λ e. d (subst (λ (b : ℕ). T (p b)) e t)) (λ n. tt)
 
 class-clean : (p : ℕ → Bool) → (T (p 60) → ⊥) → (s : Bytes) → T (all p s) → T (clean s)
-class-clean p d [] t = tt
-class-clean p d (c ∷ s) t = and-both (inText c) (clean s) (not-60 p d c (and-l (p c) (all p s) t)) (class-clean p d s (and-r (p c) (all p s) t))
+class-clean p d = all-widen p inText (not-60 p d)
 
 -- no mark of the pattern stands for `<`
 fits-short : (p s : Bytes) → T (all (λ k. not (mark k 60)) p) → T (fits p s) → Short (length p) s
