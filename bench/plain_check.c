@@ -372,7 +372,7 @@ __attribute__((cold, noinline)) static enum kind kind_of(const uint8_t *p, const
     }
     if (memcmp(p - 4, "<Id>", 4) != 0) return CODE_KIND;
     for (end += sizeof "</Id>" - 1; *end != '<'; end++) {}
-    return end[1] == '/' ? CODE_KIND : SHAPE_KIND;
+    return end[1] == '/' ? CODE_KIND : CREDITOR_ID_KIND;
 }
 
 /* The number of a bad text of such a message. */

@@ -110,7 +110,7 @@ static void read_creditor(struct reading *r, struct text *creditor) {
     CREDITOR_TEXT(CREDITOR, NAME_KIND, good_letters(s, n, MOST_NAME));
     CREDITOR_TEXT(CREDITOR_IBAN, IBAN_KIND, good_iban(s, n));
     CREDITOR_TEXT(CREDITOR_BIC, SHAPE_KIND, n == 0 || good_bic(s, n));
-    CREDITOR_TEXT(CREDITOR_ID, SHAPE_KIND, good_creditor_id(s, n));
+    CREDITOR_TEXT(CREDITOR_ID, CREDITOR_ID_KIND, good_creditor_id(s, n));
     line_end(r);
 }
 

@@ -258,12 +258,11 @@ static size_t shape_flaw(FILE *to, enum rule rule, struct text text) {
     return 8;
 }
 
-/* What the number of an IBAN leaves on division by 97: its first four characters come last, and letters are
+/* What is left on division by 97 of a number that left `n`, with these characters put after it; letters are
    read as 10 to 35. */
-static unsigned remainder_of(struct text iban) {
-    unsigned n = 0;
-    for (size_t i = 0; i < iban.length; i++) {
-        uint8_t c = iban.bytes[(i + 4) % iban.length];
+static unsigned read_on(unsigned n, struct text text, size_t from, size_t end) {
+    for (size_t i = from; i < end; i++) {
+        uint8_t c = text.bytes[i];
         if (is_digit(c))
             n = (n * 10 + (c - '0')) % 97;
         else
@@ -272,9 +271,21 @@ static unsigned remainder_of(struct text iban) {
     return n;
 }
 
-static size_t check_digits_flaw(FILE *to, struct text text) {
-    fprintf(to, "The check digits do not fit: the number leaves %u on division by 97, and must leave 1. ",
-            remainder_of(text));
+/* What the number of an IBAN or a creditor identifier leaves with the check digits 00: what follows them comes
+   first, of a creditor identifier without its business code; then the country, then 00. */
+static unsigned remainder_with_00(enum rule rule, struct text text) {
+    unsigned national = read_on(0, text, rule == CREDITOR ? 7 : 4, text.length);
+    return read_on(national, text, 0, 2) * 100 % 97;
+}
+
+/* The check digits are the last digits of the number, so they add what they are worth. */
+static size_t check_digits_flaw(FILE *to, enum rule rule, struct text text) {
+    unsigned with_00 = remainder_with_00(rule, text), left = (with_00 + two_digits(text, 2)) % 97;
+    int creditor = rule == CREDITOR;
+    fprintf(to, "The check digits%s do not fit: %sthe number leaves %u on division by 97, and must leave 1. ",
+            creditor ? " of the creditor identifier" : "",
+            creditor ? "without the business code (characters 5 to 7) " : "", left);
+    if (creditor) fprintf(to, "With the rest as it stands they would have to be %02u. ", 98 - with_00);
     fputs("A digit or letter is likely mistyped.", to);
     return 2;
 }
@@ -300,6 +311,6 @@ size_t explain_flaw(FILE *to, uint64_t number, enum rule rule, struct text text)
     case BAD_DATE: return date_flaw(to, rule, text);
     case BAD_CODE: return code_flaw(to, rule, text);
     case BAD_SHAPE: return shape_flaw(to, rule, text);
-    default: return check_digits_flaw(to, text);
+    default: return check_digits_flaw(to, rule, text);
     }
 }

@@ -22,7 +22,7 @@ static const struct words WORDS[] = {
     {57, "An IBAN, a BIC or a creditor identifier is not as its rule says, or a BIC is NOTPROVIDED.",
      "Write it as its rule says, without spaces. Take it from the document it was copied from; do not guess "
      "it. A BIC that is not known is left out."},
-    {58, "The check digits of an IBAN do not fit.",
+    {58, "The check digits of an IBAN or a creditor identifier do not fit.",
      "Compare it with the document it was copied from, character by character. Never change the check digits "
      "to make them fit."},
     {6, "The count that a batch declares differs from the number of its transactions.",
@@ -73,7 +73,8 @@ const char *const RULE[RULES] = {
     [IBAN] = "two capitals, two digits, 1 to 30 letters or digits, the check digits being right",
     [BIC] = "four capitals or digits, two capitals, two capitals or digits, optionally three more; not "
             "NOTPROVIDED",
-    [CREDITOR] = "two capitals, two digits, three capitals or digits, then 1 to 28 capitals or digits",
+    [CREDITOR] = "two capitals, two digits, three capitals or digits, then 1 to 28 capitals or digits, "
+                 "the check digits being right",
     [METHOD] = "DD",
     [BOOKING] = "true or false",
     [SEPA] = "SEPA",

@@ -16,7 +16,7 @@ extern "C" {
 #endif
 
 /* Of this header, of the library and of the command; CHANGELOG.md says what each version brought. */
-#define DESK_VERSION "2.0.0"
+#define DESK_VERSION "2.1.0"
 
 /* The limits of the profile. */
 #define DESK_BYTES 1048576      /* of a message, of a day list */
@@ -50,7 +50,7 @@ extern "C" {
      4  There are more than 2,000 transactions.
         Place: the `<` of the 2,001st DrctDbtTxInf. Mend: split the run into several messages.
     51 to 58, one stage: a text breaks its rule. The number says which of its tests it fails first. Plain texts: length, letters,
-        slashes; an IBAN: shape, then check digits; every other text has one test.
+        slashes; an IBAN or a creditor identifier: shape, then check digits; every other text has one test.
         Place: the start of the first such text. Mend: that text.
     51  A plain text (identifier, name, remittance) is empty, or has more bytes than its rule allows.
     52  It has a byte that is none of the letter set.
@@ -59,7 +59,7 @@ extern "C" {
     55  It is no real day of the years 1900 to 2099 written as 2026-11-10, or no such day and time.
     56  It is none of the codes that may stand there.
     57  It has not the shape of an IBAN, a BIC or a creditor identifier, or is NOTPROVIDED in the place of a BIC.
-    58  It has the shape of an IBAN, and its check digits do not fit.
+    58  It has the shape of an IBAN or a creditor identifier, and its check digits do not fit.
      6  The count that a batch declares differs from the number of its transactions.
         Place: the start of that NbOfTxs. Mend: find the transactions that were lost or are too many; correct the count only where
         it was declared wrong.

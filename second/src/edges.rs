@@ -4,7 +4,8 @@
 use crate::profile::NOT_PROVIDED;
 use crate::random::Random;
 use crate::rules::{Rule, LETTERS};
-use crate::samples::{good_creditor_id, good_iban, CAPITALS, DIGITS};
+use crate::samples::DIGITS;
+use crate::shape_edges::{bics, creditor_ids, ibans};
 
 pub fn edges(rule: Rule, random: &mut Random) -> Vec<Vec<u8>> {
     match rule {
@@ -34,7 +35,7 @@ pub fn edge_in_turn(rules: &[Rule], turn: usize, random: &mut Random) -> (Rule, 
     all.swap_remove(turn % all.len())
 }
 
-fn texts(list: &[&str]) -> Vec<Vec<u8>> {
+pub fn texts(list: &[&str]) -> Vec<Vec<u8>> {
     list.iter().map(|text| text.as_bytes().to_vec()).collect()
 }
 
@@ -42,14 +43,14 @@ fn letters(length: usize, random: &mut Random) -> Vec<u8> {
     random.bytes(b"aZ9 ", length)
 }
 
-fn with_byte(text: &[u8], place: usize, byte: u8) -> Vec<u8> {
+pub fn with_byte(text: &[u8], place: usize, byte: u8) -> Vec<u8> {
     let mut text = text.to_vec();
     text[place] = byte;
     text
 }
 
 /// The text with each of the bytes in each of its places.
-fn each_place(text: &[u8], bytes: &[u8]) -> Vec<Vec<u8>> {
+pub fn each_place(text: &[u8], bytes: &[u8]) -> Vec<Vec<u8>> {
     let places = 0..text.len();
     places
         .flat_map(|place| bytes.iter().map(move |&byte| with_byte(text, place, byte)))
@@ -57,7 +58,7 @@ fn each_place(text: &[u8], bytes: &[u8]) -> Vec<Vec<u8>> {
 }
 
 /// A byte more or less, before and after.
-fn around(text: &[u8], bytes: &[u8]) -> Vec<Vec<u8>> {
+pub fn around(text: &[u8], bytes: &[u8]) -> Vec<Vec<u8>> {
     let mut around = vec![text[1..].to_vec(), text[..text.len() - 1].to_vec()];
     for &byte in bytes {
         around.push([&[byte], text].concat());
@@ -261,112 +262,6 @@ fn times(random: &mut Random) -> Vec<Vec<u8>> {
         edges.push(format!("2026-11-{day}T09:30:{number:02}").into_bytes());
     }
     edges.extend(each_place(b"2026-11-02T09:30:00", b"/:"));
-    edges
-}
-
-fn ibans(random: &mut Random) -> Vec<Vec<u8>> {
-    let mut edges = texts(&[
-        "GB29NWBK60161331926819",
-        "BE30001216371411",
-        "FR7610041010050500013M02606",
-        "gb29NWBK60161331926819",
-        "Gb29NWBK60161331926819",
-        "gB29NWBK60161331926819",
-        "GB29nwbk60161331926819",
-        "GB28nwbk60161331926819",
-        "gb28nwbk60161331926819",
-        "GB29NWBKa0161331926819",
-        "BE540",
-        "BE54",
-        "BE5",
-        "BE",
-        "",
-        "GB29 NWBK 6016 1331 9268 19",
-        "GB2ONWBK60161331926819",
-        "1229NWBK60161331926819",
-        "IBAN GB29NWBK60161331926819",
-        "BE30-0012-1637-1411",
-        "BE30001216371411 ",
-    ]);
-    for length in [1, 2, 12, 29, 30, 30, 31, 32, 60] {
-        edges.push(good_iban(length, random));
-    }
-    for add in [1, 10, 95, 96, 97, 99] {
-        let text = good_iban(18, random);
-        edges.push(other_check_digits(&text, add));
-    }
-    edges.extend(all_check_digits(b"BE00001216371411"));
-    edges.extend(each_place(b"GB29N", b"/:@[`{"));
-    edges.extend(around(b"BE30001216371411", b"0A "));
-    let mut text = good_iban(20, random);
-    text.swap(2, 3);
-    edges.push(text);
-    edges
-}
-
-fn other_check_digits(text: &[u8], add: u32) -> Vec<u8> {
-    let digits = 10 * u32::from(text[2] - b'0') + u32::from(text[3] - b'0');
-    let other = format!("{:02}", (digits + add) % 100);
-    [&text[..2], other.as_bytes(), &text[4..]].concat()
-}
-
-/// Check digits that leave every kind of remainder, each tenth and those around the right one.
-fn all_check_digits(text: &[u8]) -> Vec<Vec<u8>> {
-    let chosen = [
-        0, 1, 2, 3, 10, 20, 28, 29, 31, 32, 40, 50, 60, 70, 80, 90, 97, 98, 99,
-    ];
-    let digits = chosen.iter();
-    digits.map(|&add| other_check_digits(text, add)).collect()
-}
-
-fn bics(random: &mut Random) -> Vec<Vec<u8>> {
-    let mut edges = texts(&[
-        NOT_PROVIDED,
-        NOT_PROVIDED,
-        "NOTPROVIDEX",
-        "NOTPROVI",
-        "notprovided",
-        "NOTPROVIDED ",
-        "BANKGB2L",
-        "BANKGB2LXXX",
-        "bankgb2l",
-        "1234GB56",
-        "12345678",
-        "1234GB56789",
-        "",
-        "BANK GB2L",
-        "BANKGB2L ",
-        " BANKGB2L",
-    ]);
-    edges.extend((6..=13).map(|length| random.bytes(CAPITALS, length)));
-    edges.extend(each_place(b"BANKGB2LXXX", b"0a@"));
-    edges.extend(
-        each_place(b"ZA90AZ", b"/:[`")
-            .into_iter()
-            .map(|text| [&text[..], b"09"].concat()),
-    );
-    edges
-}
-
-fn creditor_ids(random: &mut Random) -> Vec<Vec<u8>> {
-    let mut edges = texts(&[
-        "BE69000050D000000008",
-        "DE98ZZZ09999999999",
-        "FR00ZZZ123456",
-        "BE69ZZZ",
-        "BE69ZZZ1",
-        "",
-        "BE69ZZ",
-        "BE69 ZZZ1",
-        "BE69ZZZ-1",
-        "BE69ZZZ 1",
-        "BE69ZZZ1 ",
-        "be69zzz1",
-    ]);
-    for length in [0, 1, 2, 27, 28, 29, 60] {
-        edges.push(good_creditor_id(length, random));
-    }
-    edges.extend(each_place(b"BE69ZZZ1A", b"0a@"));
     edges
 }
 

@@ -23,6 +23,7 @@ mod random;
 mod rules;
 mod samples;
 mod selftest;
+mod shape_edges;
 mod test_bundle;
 mod test_cases;
 mod test_faults;

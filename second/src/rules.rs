@@ -90,8 +90,8 @@ impl Rule {
     }
 
     /// The fault of the first test that a text fails, if it fails any: a plain text is tested for
-    /// its length, its letters and, where it identifies something, its slashes, an IBAN for its
-    /// shape and its check digits, every other text once.
+    /// its length, its letters and, where it identifies something, its slashes, an IBAN or a
+    /// creditor identifier for its shape and its check digits, every other text once.
     pub fn fault(self, text: &[u8]) -> Option<Fault> {
         match self {
             Rule::Id => plain(text, 35).or_else(|| Fault::Slash.unless(slashes(text))),
@@ -104,7 +104,7 @@ impl Rule {
             Rule::Time => Fault::Date.unless(time(text)),
             Rule::Iban => iban(text),
             Rule::Bic => Fault::Shape.unless(bic(text)),
-            Rule::CreditorId => Fault::Shape.unless(creditor_id(text)),
+            Rule::CreditorId => creditor_id(text),
             Rule::OneOf(words) => Fault::Code.unless(words.iter().any(|w| w.as_bytes() == text)),
         }
     }
@@ -254,6 +254,14 @@ fn bic(text: &[u8]) -> bool {
     (fits(text, "XXXXAAXX") || fits(text, "XXXXAAXXXXX")) && text != NOT_PROVIDED.as_bytes()
 }
 
-fn creditor_id(text: &[u8]) -> bool {
-    fits_and_more(text, "AA99XXX", b'X', 28)
+fn creditor_id(text: &[u8]) -> Option<Fault> {
+    let left = || remainder_by_97(&without_business_code(text));
+    Fault::Shape
+        .unless(fits_and_more(text, "AA99XXX", b'X', 28))
+        .or_else(|| Fault::CheckDigits.unless(left() == 1))
+}
+
+/// A creditor identifier without its characters 5 to 7, which its check digits leave out.
+pub fn without_business_code(text: &[u8]) -> Vec<u8> {
+    [&text[..4], &text[7..]].concat()
 }

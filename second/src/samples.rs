@@ -132,15 +132,20 @@ pub fn good_iban(length: usize, random: &mut Random) -> Vec<u8> {
     let set = random.pick(&[DIGITS, CAPITALS_AND_DIGITS, LETTERS_AND_DIGITS]);
     let country = random.bytes(CAPITALS, 2);
     let account = random.bytes(set, length);
-    let mut text = [country, b"00".to_vec(), account].concat();
-    let mut digits = 98 - remainder_by_97(&text) as usize;
+    let digits = check_digits(&country, &account, random);
+    [country, digits, account].concat()
+}
+
+/// Check digits that leave 1 between a country and the rest that counts; where two pairs do, 00
+/// and 97, 01 and 98 or 02 and 99, one of them.
+fn check_digits(country: &[u8], rest: &[u8], random: &mut Random) -> Vec<u8> {
+    let mut digits = 98 - remainder_by_97(&[country, b"00", rest].concat()) as usize;
     match digits {
         2 if random.once_in(2) => digits += 97,
         97 | 98 if random.once_in(2) => digits -= 97,
         _ => {}
     }
-    text[2..4].copy_from_slice(format!("{digits:02}").as_bytes());
-    text
+    format!("{digits:02}").into_bytes()
 }
 
 fn good_bic(size: Size, random: &mut Random) -> Vec<u8> {
@@ -154,8 +159,9 @@ fn good_bic(size: Size, random: &mut Random) -> Vec<u8> {
 }
 
 pub fn good_creditor_id(length: usize, random: &mut Random) -> Vec<u8> {
-    let mut text = random.bytes(CAPITALS, 2);
-    text.extend(random.bytes(DIGITS, 2));
-    text.extend(random.bytes(CAPITALS_AND_DIGITS, 3 + length));
-    text
+    let country = random.bytes(CAPITALS, 2);
+    let business_code = random.bytes(CAPITALS_AND_DIGITS, 3);
+    let national_part = random.bytes(CAPITALS_AND_DIGITS, length);
+    let digits = check_digits(&country, &national_part, random);
+    [country, digits, business_code, national_part].concat()
 }

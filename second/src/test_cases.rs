@@ -34,7 +34,7 @@ const CREDITOR_NUMBERS: [&[u32]; 7] = [
     &[51, 52],
     &[57, 58],
     &[57],
-    &[57],
+    &[57, 58],
 ];
 
 /// The same of a collection.

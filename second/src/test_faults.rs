@@ -46,7 +46,7 @@ fn text_paths() -> Vec<String> {
 
 fn cases_of_the_table(bench: &mut Bench) {
     let (messages, lists) = (messages(), lists());
-    bench.same("cases", (messages.len(), lists.len()), (390, 643));
+    bench.same("cases", (messages.len(), lists.len()), (408, 658));
     let checker = Checker::new();
     for case in messages {
         let found = checker.check(&case.input, Tables::LONG_ENOUGH);

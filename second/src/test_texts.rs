@@ -1,8 +1,11 @@
 //! Tests of the text rules: which texts they allow, and the values of counts, sums and amounts.
 
 use crate::random::Random;
-use crate::rules::{amount, count, moved_digits, remainder_by_97, sum, Rule, LETTERS};
+use crate::rules::{
+    amount, count, moved_digits, remainder_by_97, sum, without_business_code, Fault, Rule, LETTERS,
+};
 use crate::selftest::Bench;
+use crate::shape_edges::{MISREAD, WITH_TWO_PAIRS};
 
 pub fn run(bench: &mut Bench) {
     stars(bench);
@@ -13,6 +16,9 @@ pub fn run(bench: &mut Bench) {
     every_day(bench);
     codes(bench);
     identifications(bench);
+    creditor_ids(bench);
+    misread(bench);
+    known_remainders(bench);
     remainders(bench);
 }
 
@@ -224,27 +230,53 @@ fn identifications(bench: &mut Bench) {
         "BANKGB2LXX-",
     ];
     judge(bench, Rule::Bic, &good, &bad);
-    let longest = "BE69ZZZ".to_string() + &"9".repeat(28);
-    let too_long = longest.clone() + "9";
-    let good = [
-        "BE69000050D000000008",
-        "DE98ZZZ09999999999",
-        "FR00ZZZ123456",
-        "BE69ZZZ1",
-        &longest,
-    ];
-    let bad = [
+}
+
+fn creditor_ids(bench: &mut Bench) {
+    let longest = "BE92ZZZ".to_string() + &"9".repeat(28);
+    let too_long = "BE94ZZZ".to_string() + &"9".repeat(29);
+    let good = ["BE27ZZZ1", "BE27A9Z1", "BE270001", &longest];
+    judge(bench, Rule::CreditorId, &good, &[]);
+    judge(bench, Rule::CreditorId, &WITH_TWO_PAIRS, &[]);
+    let no_shape = [
         "",
-        "BE69ZZZ",
-        "be69ZZZ1",
-        "BE69zzz1",
-        "BE69ZZZa",
-        "BE6AZZZ1",
-        "B169ZZZ1",
-        "BE69ZZZ 1",
+        "BE54ZZZ",
+        "be27ZZZ1",
+        "BE27zzz1",
+        "BE27ZZZa",
+        "BE2AZZZ1",
+        "B127ZZZ1",
+        "BE27ZZZ 1",
+        "be28ZZZ1",
         &too_long,
     ];
-    judge(bench, Rule::CreditorId, &good, &bad);
+    let wrong = [
+        (&no_shape[..], Fault::Shape),
+        (&MISREAD, Fault::CheckDigits),
+    ];
+    for (texts, fault) in wrong {
+        for text in texts {
+            let found = Rule::CreditorId.fault(text.as_bytes());
+            bench.same(&format!("creditor identifier {text:?}"), found, Some(fault));
+        }
+    }
+}
+
+/// What the misread creditor identifiers leave, each misread in its own way.
+fn misread(bench: &mut Bench) {
+    let [with_code, in_front, both] = MISREAD.map(str::as_bytes);
+    let left = [
+        remainder_by_97(with_code),
+        remainder_by_97(&last_four_first(&without_business_code(in_front))),
+        remainder_by_97(&last_four_first(both)),
+    ];
+    bench.same("misread creditor identifiers", left, [1; 3]);
+}
+
+/// The text that is this one when its first four characters have been moved to the end.
+fn last_four_first(text: &[u8]) -> Vec<u8> {
+    let (rest, last) = text.split_at(text.len() - 4);
+    [last, rest].concat()
 }
 
 /// An IBAN with the check digits that make it leave 1.
@@ -254,12 +286,33 @@ fn remainder_one(country: &str, account: &str) -> String {
     right.next().unwrap()
 }
 
+/// Creditor identifiers with what they leave, most of them printed in the sources.
+const CREDITOR_IDS: [(&str, u32); 9] = [
+    ("DE98ZZZ09999999999", 1),
+    ("BE120010456810810", 1),
+    ("BE69000050D000000008", 1),
+    ("FR72ZZZ123456", 1),
+    ("FR00ZZZ123456", 26),
+    ("BE73ZZZ123456789012", 21),
+    ("BE11ZZZ73123456789012", 54),
+    ("BE11ZZZ123456789", 41),
+    ("BE78000050D000000008", 10),
+];
+
+fn known_remainders(bench: &mut Bench) {
+    for (text, left) in CREDITOR_IDS {
+        let found = remainder_by_97(&without_business_code(text.as_bytes()));
+        bench.same(&format!("{text} leaves {left}"), found, left);
+        let fault = Rule::CreditorId.fault(text.as_bytes());
+        bench.same(text, fault, Fault::CheckDigits.unless(left == 1));
+    }
+    let with_code = ["DE98ZZZ09999999999", "FR00ZZZ123456"];
+    let left = with_code.map(|text| remainder_by_97(text.as_bytes()));
+    bench.same("with the business code", left, [25, 78]);
+}
+
 /// The remainder once more, digit after digit.
 fn remainders(bench: &mut Bench) {
-    let known = [("DE98ZZZ09999999999", 4), ("FR00ZZZ123456", 4)];
-    let without_code = known.map(|(text, place)| [&text[..place], &text[7..]].concat());
-    let left = without_code.map(|text| remainder_by_97(text.as_bytes()));
-    bench.same("creditor identifiers leave 1 and 26", left, [1, 26]);
     let mut random = Random::new(97, 0);
     let wrong = (0..5000).find(|_| {
         let length = random.within(5..=34);

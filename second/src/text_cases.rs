@@ -74,7 +74,7 @@ pub fn messages() -> Vec<TextCase> {
         texts_of_a_message(),
         end_to_end_ids(),
         other_texts(),
-        ibans_and_counts(),
+        shapes_and_counts(),
         named_messages(),
     ];
     parts.into_iter().flatten().collect()
@@ -177,13 +177,20 @@ fn strange_id() -> Vec<u8> {
     [&b"/"[..], &[b'a'; 33], b"\xFC"].concat()
 }
 
-/// A bad IBAN comes before the wrong count of transactions.
-fn ibans_and_counts() -> Vec<TextCase> {
-    let place = MESSAGE.find("GB29").unwrap();
-    let ibans = [("GB28", 58), ("gb29", 57), ("gb28", 57)];
-    let cases = ibans.map(|(iban, number)| {
-        let message = with("GB29", iban).replacen("<NbOfTxs>2", "<NbOfTxs>3", 1);
-        TextCase::of_a_message(&format!("{iban}, wrong count"), message, number, place)
+/// A bad IBAN or creditor identifier comes before the wrong count of transactions.
+fn shapes_and_counts() -> Vec<TextCase> {
+    let texts = [
+        ("GB29", "GB28", 58),
+        ("GB29", "gb29", 57),
+        ("GB29", "gb28", 57),
+        ("BE69", "BE78", 58),
+        ("BE69", "be69", 57),
+        ("BE69", "be78", 57),
+    ];
+    let cases = texts.map(|(text, other, number)| {
+        let place = MESSAGE.find(text).unwrap();
+        let message = with(text, other).replacen("<NbOfTxs>2", "<NbOfTxs>3", 1);
+        TextCase::of_a_message(&format!("{other}, wrong count"), message, number, place)
     });
     cases.into()
 }

@@ -123,9 +123,28 @@ const BIC: Kind = Kind {
 };
 const CREDITOR_ID: Kind = Kind {
     good: "BE69000050D000000008",
-    longest: ("BE69ZZZ0123456789012345678901234567", 1),
+    longest: ("BE71ZZZ0123456789012345678901234567", 1),
     numbers: SHAPE,
-    own: &[("BE69ZZZ", 57), ("be69ZZZ1", 57), ("BE6AZZZ1", 57)],
+    own: &[
+        ("BE54ZZZ", 57),
+        ("be27ZZZ1", 57),
+        ("BE2AZZZ1", 57),
+        ("FR00zzz123456", 57),
+        ("FR00ZZZ123456", 58),
+        ("BE73ZZZ123456789012", 58),
+        ("BE11ZZZ73123456789012", 58),
+        ("BE11ZZZ123456789", 58),
+        ("BE78000050D000000008", 58),
+        ("FR20ZZZ123456", 58),
+        ("FR58ZZZ123456", 58),
+        ("DE98ZZZ09999999999", 0),
+        ("DE01ZZZ09999999999", 0),
+        ("BE00ZZZ2", 0),
+        ("BE99ZZZ63", 0),
+        ("BE120010456810810", 0),
+        ("FR72ZZZ123456", 0),
+        ("FR72A9Z123456", 0),
+    ],
 };
 
 const fn code(good: &'static str, own: &'static [(&'static str, u32)]) -> Kind {

@@ -70,12 +70,19 @@ sentence 51 'FEE 1' "/${long:36}_/" 'It has 36 characters; at most 35 are allowe
 sentence 52 'FEE 1' "/${long:36}_" 'Character 35 is "_", which is not in the letter set.'
 sentence 53 'FEE 1' "/${long:35}" 'It begins with a slash.'
 sentence 57 'BE68539007547034' 'be6853900754703' 'Character 1 is "b"; a capital letter must stand there.'
+sentence 57 'BE69000050D000000008' 'FR00ZZZ' 'It ends after 7 characters; a creditor identifier has at least 8.'
+sentence 57 'BE69000050D000000008' 'FR00ZZz123456' 'Character 7 is "z"; a capital letter or a digit must stand there.'
+sentence 57 'BE69000050D000000008' 'FR 00ZZZ123456' 'Character 3 is " "; a creditor identifier has no spaces.'
+sentence 57 'BE69000050D000000008' "FR00ZZZ${long:40}" 'It has 36 characters; a creditor identifier has at most 35.'
 # slashes of a name are good; a bank's code is one, not a shape; a text comes before the totals
 expect "sed 's|Mr Debiteur N1|//N1/|' examples/day.xml | desk check --quiet -" 0 ''
 sentence 56 'NOTPROVIDED' 'NOTPROVIDEX' 'It is no code that may stand there; capitals and small letters differ, and spaces count.'
 expect "sed 's/BE30/BE31/; s/<NbOfTxs>2/<NbOfTxs>3/' examples/day.xml | desk check -" 1 'NO 58 1649'
+expect "sed 's/BE69/BE78/; s/<NbOfTxs>2/<NbOfTxs>3/' examples/day.xml | desk check -" 1 'NO 58 783'
 # of several such texts the first in the message
 expect "sed 's/FEE 1/FEE_1/; s/RCUR/rcur/; s/BE30/BE31/' examples/day.xml | desk check -" 1 'NO 56 503'
+expect "sed 's/FEE 1/FEE_1/; s/BE69/BE78/; s/BE30/BE31/' examples/day.xml | desk check -" 1 'NO 58 783'
+expect "sed 's/BBRUBEBB/bbrubebb/; s/BE69/BE78/' examples/day.xml | desk check -" 1 'NO 57 688'
 
 # What a number means, and what to mend.
 words() { # NUMBER FROM TO MEANS MEND
@@ -89,12 +96,17 @@ shape='An IBAN, a BIC or a creditor identifier is not as its rule says, or a BIC
 mend='Write it as its rule says, without spaces. Take it from the document it was copied from; do not guess it. A BIC that is not known is left out.'
 words 57 'BBRUBEBB' 'NOTPROVIDED' "$shape" "$mend"
 words 57 'BE68539007547034' 'BE68' "$shape" "$mend"
-words 58 'BE30' 'BE31' 'The check digits of an IBAN do not fit.' 'Compare it with the document it was copied from, character by character. Never change the check digits to make them fit.'
-unset shape mend
+fit='The check digits of an IBAN or a creditor identifier do not fit.'
+compare='Compare it with the document it was copied from, character by character. Never change the check digits to make them fit.'
+words 58 'BE30' 'BE31' "$fit" "$compare"
+words 58 'BE69000050D000000008' 'FR00ZZZ123456' "$fit" "$compare"
+unset shape mend fit compare
 unset -f words
 # --help and the manual page say that NOTPROVIDED as a BIC is 57
 expect 'desk --help | tr -s " \n" " " | grep -o "57 [^,]*,"' 0 '57 shape (also NOTPROVIDED as a BIC),'
 expect 'sed -n "/^57 /,/^58 /p" host/desk.1 | grep -c "a BIC is NOTPROVIDED"' 0 '1'
+# the manual page says that 58 is also of creditor identifiers
+expect 'sed -n "/^58 /,/^.fi/p" host/desk.1 | grep -c "an IBAN or a creditor identifier"' 0 '1'
 
 # What a file is that is no message, and what to mend.
 hint() { # COMMAND NAME MEND
@@ -145,6 +157,7 @@ value 57 1 5 BE68539007547034 'BE68 5390 0754 7034' 'creditor IBAN: Character 5 
 value 58 1 5 BE68539007547034 FR7610041010050500013M02606 'creditor IBAN: The check digits do not fit: the number leaves 6 on division by 97, and must leave 1. A digit or letter is likely mistyped.'
 value 57 1 6 BBRUBEBB NOTPROVIDED 'creditor BIC: NOTPROVIDED is no BIC. A message says Othr, Id and NOTPROVIDED in the place of BICFI; a list leaves the BIC empty.'
 value 57 1 7 BE69000050D000000008 '' 'creditor identifier: It is empty; a creditor identifier has at least 8 characters.'
+value 57 1 7 BE69000050D000000008 FR00ZZZ12345a 'creditor identifier: Character 13 is "a"; a capital letter or a digit must stand there.'
 value 55 2 4 2026-11-10 '' 'collection date: It is empty; a date, as 2026-11-10, has at least 10 characters.'
 value 55 2 4 2026-11-10 2026-02-30 'collection date: The day is 30; February 2026 has the days 01 to 28.'
 value 52 2 5 'FEE 1' "/${long:36}_" 'end-to-end id: Character 35 is "_", which is not in the letter set.'
@@ -155,6 +168,47 @@ value 51 2 9 'Mr Debiteur N1' "_$long/" 'debtor name: It has 71 characters; at m
 value 57 3 10 BE30001216371411 '' 'debtor IBAN: It is empty; an IBAN has at least 5 characters.'
 value 58 3 10 BE30001216371411 BE31001216371411 'debtor IBAN: The check digits do not fit: the number leaves 2 on division by 97, and must leave 1. A digit or letter is likely mistyped.'
 value 52 2 11 'Facture N1' 'Facture #1' 'remittance: Character 9 is "#", which is not in the letter set.'
+# The check digits of a creditor identifier, in a message and in a list: what its number leaves without the business code, and what
+# the check digits would have to be.
+dead() { # IDENTIFIER LEAVES RIGHT
+    fit="The check digits of the creditor identifier do not fit: without the business code (characters 5 to 7) the number leaves $2 on division by 97, and must leave 1."
+    fit="$fit With the rest as it stands they would have to be $3. A digit or letter is likely mistyped."
+    sentence 58 BE69000050D000000008 "$1" "$fit"
+    value 58 1 7 BE69000050D000000008 "$1" "creditor identifier: $fit"
+    good "${1:0:2}$3${1:4}"
+}
+good() { # IDENTIFIER
+    expect "sed 's/BE69000050D000000008/$1/' examples/day.xml | desk check - | head -n 1" 0 'OK 1 2 325015'
+    expect "sed '1s/$(text BE69000050D000000008)/$(text "$1")/' examples/day.list | desk write --quiet --ceiling 2 - | cmp - <(sed 's/BE69000050D000000008/$1/' examples/day.xml)" 0 ''
+}
+# identifiers that the papers print, good ones below; and two beside the first of them
+dead FR00ZZZ123456 26 72
+dead FR00ABC123456 26 72
+dead FR73ZZZ123456 2 72
+dead BE73ZZZ123456789012 21 53
+dead BE11ZZZ73123456789012 54 55
+dead BE11ZZZ123456789 41 68
+dead BE78000050D000000008 10 69
+# the lowest and the highest check digits; the shortest identifier and the longest
+dead FR00ZZZ71 96 02
+dead FR00ZZZ89 0 98
+dead BE00ZZZ9 93 05
+dead ZZ00ZZZZZZZZZZZZZZZZZZZZZZZZZZZZZZZ 87 11
+good DE98ZZZ09999999999
+good DE980A909999999999
+good BE120010456810810
+# the remainder alone decides, as of an IBAN
+good FR00ZZZ10
+unset fit
+unset -f dead good
+# in the second batch, with its rule
+expect "sed 's/BE69000050D000000008/FR00ZZZ123456/2' examples/printed.xml | desk check --explain - | sed -n '1p; 4p; 8p'" 0 'NO 58 2128
+Element: Document/CstmrDrctDbtInitn/PmtInf/CdtrSchmeId/Id/PrvtId/Othr/Id, batch 2.
+Its rule: two capitals, two digits, three capitals or digits, then 1 to 28 capitals or digits, the check digits being right.'
+# after another field of the line, and before another line
+expect "sed '1s/42453638/42453639/; 1s/42453639303030/42453738303030/; 2s/^0200/0202/' examples/day.list | desk write --ceiling 2 --explain - 2>&1 | grep -E '^(NO|Field|Also)'" 0 'NO 58 1 5
+Field 5, creditor IBAN: The check digits do not fit: the number leaves 2 on division by 97, and must leave 1. A digit or letter is likely mistyped.
+Also field 7, creditor identifier: The check digits of the creditor identifier do not fit: without the business code (characters 5 to 7) the number leaves 10 on division by 97, and must leave 1. With the rest as it stands they would have to be 69. A digit or letter is likely mistyped.'
 # scheme, sequence and cents; document 01: cents 17 48 76 E7 FF are good, 17 48 76 E8 00 are not
 digits() { # FROM TO NUMBER FIELD SENTENCE
     expect "sed '2s/$1/$2/' examples/day.list | desk write --ceiling 2 --explain - 2>&1 | sed -n '1p; 4p'" 0 "NO $3 2 $4

@@ -219,6 +219,13 @@ expect "printf '%s\n' '$fields' '${record/FEE 1//FEE 1}' | desk list ${creditor/
 --creditor-name: the creditor name "Zoë": ..
 line 2, column 30: the end-to-end id "/FEE 1": ..
 No letter is changed: write the text with letters of the set.'
+# a creditor identifier with wrong check digits, given by an option and in a column
+wrong='The check digits of the creditor identifier do not fit: without the business code (characters 5 to 7) the number leaves'
+expect "printf '%s\n' '$fields' '$record' | desk list ${creditor/BE69000050D000000008/FR00ZZZ123456} -" 1 "NO 58 1 7
+--creditor-identifier: the creditor identifier \"FR00ZZZ123456\": $wrong 26 on division by 97, and must leave 1. With the rest as it stands they would have to be 72. A digit or letter is likely mistyped."
+expect "sed '2s/BE69/BE78/' examples/day.csv | desk list -" 1 "NO 58 1 7
+line 2, column 93: the creditor identifier \"BE78000050D000000008\": $wrong 10 on division by 97, and must leave 1. With the rest as it stands they would have to be 69. A digit or letter is likely mistyped."
+expect "printf '%s\n' '$fields' '$record' | desk list --quiet ${creditor/BE69000050D000000008/DE98ZZZ09999999999} - | desk show - | sed -n 2p" 0 'RUN-2026/07,2026-11-02T09:30:00,Bureau,Lab,BE68539007547034,,DE98ZZZ09999999999,,,,,,,,,,,'
 
 # at most 20 faults are said, of the CSV and of its values
 many() { awk -v record="$1" -v n="$2" 'BEGIN { for (; n > 0; n--) print record }'; } # RECORD COUNT
@@ -250,5 +257,5 @@ for name in 22:'"""r' 0A:$'"\nr' 0D:$'"\rr' 2C:'",r'; do
 done
 expect "sed 's/^02..../&FFFFFFFFFF/; s/\(^02....FFFFFFFFFF\)........../\1/' examples/day.list | desk show - | sed -n '3s/2026.*//p'" 0 ',,,,,,,CORE,RCUR,10995116277.75,'
 expect 'head -c 590 examples/day.list | desk show - 2>&1 | head -n 1' 0 'NO 23 3'
-unset fields record creditor_fields creditor cut how semicolons both options name
+unset fields record creditor_fields creditor cut how semicolons both options name wrong
 unset -f csv records swap many faults

@@ -175,7 +175,9 @@ creditor-texts : Told (
     ∷ (creditorBut 5 "", fault 0 1)  -- NOTPROVIDED
     ∷ (creditorBut 5 "NOTPROVIDED", value 57 1 6)
     ∷ (creditorBut 6 "", value 57 1 7)
-    ∷ (creditorBut 6 "BE69ZZZd", value 57 1 7)
+    ∷ (creditorBut 6 "fr00ZZZ123456", value 57 1 7)
+    ∷ (creditorBut 6 "FR00ZZZ123456", value 58 1 7)
+    ∷ (creditorBut 6 "FR72ZZZ123456", fault 0 1)
     ∷ [])
 creditor-texts = refl
 

@@ -73,6 +73,11 @@ cases =
     ∷ case (edit printed 1126 1 "X") 56 1116
     ∷ case (edit printed 1554 8 "NOTPROVIDED") 57 1554
     ∷ case (edit printed 1239 1 "8") 58 1218
+    -- a creditor identifier: good; of bad check digits; of a bad shape with them; of bad check digits, with a wrong count
+    ∷ case (edit printed 783 20 "DE98ZZZ09999999999") 0 0
+    ∷ case (edit printed 783 20 "FR00ZZZ123456") 58 783
+    ∷ case (edit printed 783 20 "fr00ZZZ123456") 57 783
+    ∷ case (edit (edit printed 783 20 "FR00ZZZ123456") 383 1 "3") 58 783
     -- a bad IBAN and a wrong count together, by its check digits and by its shape; of two texts the first
     ∷ case (edit (edit printed 1239 1 "8") 383 1 "3") 58 1218
     ∷ case (edit (edit printed 1239 1 "_") 383 1 "3") 57 1218

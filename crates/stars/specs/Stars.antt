@@ -1,7 +1,8 @@
--- THE CASES MARKED ★ in document 01, as one list and one claim about the definitions. That it holds is proofs/Hold.
+-- THE CASES MARKED ★ in document 01, and those that document 02 names, as one list and one claim about the definitions. That it holds is proofs/Hold.
 --   Case       a message that is refused with 2 at a place; a text that obeys a rule, or breaks it; a test
 --   Claim c    what the case c claims
 --   cases      ★1 TO ★12, each under its number
+--   asked      the cases that document 02 names, each under its request
 --   Stars      THE CLAIM: each case holds
 use Prim.Native.Nat.{ℕ}
 use Prim.Native.String.{String}
@@ -12,7 +13,7 @@ use Rattle.laws.specs.Bytes.{Bytes, ascii, same}
 use Rattle.laws.specs.Lists.{All, number}
 use Rattle.profile.specs.Refusals.{listNumberOf, listPlaceOf, listFieldOf}
 use Rattle.text.specs.declared.Judged.{Judged}
-use Rattle.text.specs.Rules.{good, leaves, iban, amount, sum, date, identifier, bic}
+use Rattle.text.specs.Rules.{good, leaves, withoutBusinessCode, iban, amount, sum, date, identifier, bic, creditorIdentifier}
 use Rattle.tree.specs.Form.{NotOfForm}
 use Rattle.tree.specs.Pain008.{Document, declaration}
 use Rattle.daylist.specs.declared.JudgedList.{JudgedList}
@@ -89,6 +90,13 @@ cases =
     ∷ (12, test (same (withCents "174876E800") (54 ∷ 2 ∷ 3 ∷ [])))
     ∷ []
 
+abbrev pub asked : List (ℕ × Case)
+asked =
+    (2, obeys creditorIdentifier "DE98ZZZ09999999999")
+    ∷ (2, breaks creditorIdentifier "FR00ZZZ123456")
+    ∷ (2, test (eqb (leaves (withoutBusinessCode (ascii "FR00ZZZ123456"))) 26))
+    ∷ []
+
 -- THE CLAIM
 abbrev pub Stars : Type 0
-Stars = All (λ c. Claim (c .1)) cases
+Stars = All (λ c. Claim (c .1)) (cases ++ asked)

@@ -2,12 +2,13 @@
 --   r judges t      the rule r judges each text of the table t as the table says
 --   letter-set      of the 256 bytes a-z A-Z 0-9 / - ? : ( ) . , ' + and space are letters, 73 in all
 --   lengths         plain texts of the most bytes, of one more, whatever its letters, and of none; only an identifier looks at slashes, and spaces count
---   identifiers, counts, sums, amounts, dates, times, ibans, bics, creditor-identifiers, codes
+--   identifiers, counts, sums, amounts, dates, times, ibans, bics, creditor-identifiers, printed-identifiers, codes
+use Prim.Native.Nat.{ℕ}
 use Prim.Native.String.{String}
-use mathlib.Core.Bool.{_||_, Bool·beq}
+use mathlib.Core.Bool.{true, false, _||_, Bool·beq}
 use mathlib.Core.List.{List, [], _∷_, map}
 use mathlib.Core.Path.{_≡_, refl}
-use lib.Dec.{T}
+use lib.Dec.{T, eqb}
 use lib.ListN.{length, replicate}
 use Rattle.laws.specs.Bytes.{ascii, between, has}
 use Rattle.laws.proofs.Below.{every}
@@ -17,7 +18,7 @@ use Rattle.text.specs.declared.Judged.{Judged}
 use Rattle.text.specs.declared.Judged.the-variants.{Good, Bad}
 use Rattle.text.specs.declared.Rule.{Rule}
 use Rattle.text.specs.declared.Rule.the-variants.{Identifier, Name, Remittance, Count, Sum, Amount, Date as Day, Time, Iban, Bic, CreditorIdentifier, Method, Booking, Sepa, Scheme, Sequence, Charges, NotProvided}
-use Rattle.text.specs.Rules.{good, judged}
+use Rattle.text.specs.Rules.{good, leaves, withoutBusinessCode, judged}
 
 infix 10 _judges_
 abbrev _judges_ : Rule → List (String × Judged) → Type 0
@@ -106,12 +107,28 @@ pub bics : Bic judges (
     ∷ [])
 bics = refl
 
--- 8 to 35 bytes
+-- 8 to 35 bytes; whatever its business code; of a bad shape and bad check digits the shape
 pub creditor-identifiers : CreditorIdentifier judges (
-    ("BE69000", Bad Shape) ∷ ("BE690005", Good 0) ∷ ("BE69ZZZ2345678901234567890123456789", Good 0) ∷ ("BE69ZZZ23456789012345678901234567890", Bad Shape)
-    ∷ ("BE69ZZz5", Bad Shape) ∷ ("BE69ZZZd", Bad Shape) ∷ ("be69ZZZ5", Bad Shape) ∷ ("", Bad Shape)
+    ("BE16ZZZ", Bad Shape) ∷ ("BE16ZZZ5", Good 0) ∷ ("BE19ZZZ2345678901234567890123456789", Good 0) ∷ ("BE92ZZZ23456789012345678901234567890", Bad Shape)
+    ∷ ("BE16A075", Good 0) ∷ ("BE16ZZz5", Bad Shape) ∷ ("BE16ZZZd", Bad Shape) ∷ ("be16ZZZ5", Bad Shape) ∷ ("be17ZZZ5", Bad Shape) ∷ ("", Bad Shape)
+    -- each leaves 1 in one way alone: the business code kept, the first four not moved
+    ∷ ("BE65ZZZ5", Bad CheckDigits) ∷ ("BE72ZZZ5", Bad CheckDigits)
+    -- 97 apart
+    ∷ ("BE00ZZZ2", Good 0) ∷ ("BE97ZZZ2", Good 0) ∷ ("BE02ZZZ63", Good 0) ∷ ("BE99ZZZ63", Good 0)
     ∷ [])
 creditor-identifiers = refl
+
+-- those that the papers print, and what each leaves
+abbrev printed : List (String × ℕ)
+printed =
+    ("DE98ZZZ09999999999", 1) ∷ ("BE120010456810810", 1) ∷ ("BE69000050D000000008", 1)
+    ∷ ("FR00ZZZ123456", 26) ∷ ("BE73ZZZ123456789012", 21) ∷ ("BE11ZZZ73123456789012", 54) ∷ ("BE11ZZZ123456789", 41) ∷ ("BE78000050D000000008", 10)
+    ∷ []
+
+pub printed-identifiers :
+    (map (λ p. leaves (withoutBusinessCode (ascii (p .0)))) printed ≡ map (λ p. p .1) printed)
+    × CreditorIdentifier judges map (λ p. (p .0, elim (eqb (p .1) 1) [ true ↦ Good 0 | false ↦ Bad CheckDigits ])) printed
+printed-identifiers = (refl, refl)
 
 -- ─── codes: each states its place ───
 

@@ -1,4 +1,4 @@
--- Rules    the text rules of document 01
+-- Rules    the text rules
 -- Shapes   a text of a front and a rest
 pub mod Rules
 pub mod Shapes

@@ -1,10 +1,11 @@
--- THE TEXT RULES of document 01, section "Texts", in its order. To be believed; definitions only.
+-- THE TEXT RULES of document 01, section "Texts", in its order, with the check digits of request 2. To be believed; definitions only.
 -- A rule judges a text: `Good n`, n being the number that the text states (0 where it states none), or `Bad` with the kind of the first test that fails.
 -- "For plain texts the tests go length in bytes, then letter set, then slashes; codes, numbers, dates and shapes have one test each, and the check digits follow the shape" (request 1).
 --   identifier, name, remittance         plain texts of the letter set
 --   count, sum, amount                   NbOfTxs states its number, CtrlSum and InstdAmt their cents
 --   date, time                           a date states year, month and day as the number yyyymmdd
---   iban, bic, creditorIdentifier        shapes, and the check digits of an IBAN
+--   iban, bic, creditorIdentifier        shapes; an IBAN and a creditor identifier have check digits too
+--   leaves, withoutBusinessCode          what a number leaves on division by 97; what of a creditor identifier counts for it
 --   method .. notProvided                codes: each states its place, from 0, among the words listed
 --   judged r s                           the text s judged by the rule r
 use Prim.Native.Nat.{ℕ, suc, _+_, _-_, _*_, _%_}
@@ -126,8 +127,15 @@ iban s =
 abbrev pub bic : Bytes → Judged
 bic s = must ((fits (ascii "NNNNAANN") s || fits (ascii "NNNNAANNNNN") s) && not (same s (ascii "NOTPROVIDED"))) Shape (Good 0)
 
+-- characters 5 to 7 left out
+abbrev pub withoutBusinessCode : Bytes → Bytes
+withoutBusinessCode s = take 4 s ++ drop 7 s
+
+-- "leaves out the business code, characters 5 to 7, moves the first four to the end, reads letters as 10 to 35 and asks for 1 on division by 97" (request 2)
 abbrev pub creditorIdentifier : Bytes → Judged
-creditorIdentifier s = must (fits (ascii "AADDNNN") (take 7 s) && (between 1 28 (length (drop 7 s)) && all capitalOrDigit (drop 7 s))) Shape (Good 0)
+creditorIdentifier s =
+    must (fits (ascii "AADDNNN") (take 7 s) && (between 1 28 (length (drop 7 s)) && all capitalOrDigit (drop 7 s))) Shape
+    (must (eqb (leaves (withoutBusinessCode s)) 1) CheckDigits (Good 0))
 
 -- ─── codes ───
 

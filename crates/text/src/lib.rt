@@ -1,4 +1,4 @@
-// The text rules of document 01. Each judges a lent part of a message or a list, of any bytes and any length.
+// The text rules. Each judges a lent part of a message or a list, of any bytes and any length.
 //
 //   plain    identifiers, names, remittance
 //   number   counts, sums, amounts

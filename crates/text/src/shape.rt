@@ -69,12 +69,16 @@ pub fn bic(text: &[u8]) -> Judged
     Judged::Good(0)
 }
 
-// Two capitals, two digits, three capitals or digits, then 1 to 28 capitals or digits.
+// Two capitals, two digits, the business code of three capitals or digits, 1 to 28 capitals or digits; the business code left out and the first four moved to
+// the end, the number leaves 1 on division by 97.
 pub fn creditor_identifier(text: &[u8]) -> Judged
     ensures { λ r. ⌜ r ≡ creditorIdentifier (now (text .entry)) ⌝ }
 {
     if !is_shaped(text, b"AADDNNN", 28, Class::CapitalOrDigit) {
         return Judged::Bad(Flaw::Shape);
+    }
+    if !leaves_one(text, 7) {
+        return Judged::Bad(Flaw::CheckDigits);
     }
     Judged::Good(0)
 }
