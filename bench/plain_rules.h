@@ -113,21 +113,8 @@ static inline int is_creditor_id_shaped(const uint8_t *s, size_t n) {
     return n >= 8 && n <= MOST_ID && all(s, 2, CAPITAL) && all(s + 2, 2, DIGIT) && all(s + 4, n - 4, CAPITAL | DIGIT);
 }
 
-/* What is left on division by 97 of a creditor identifier that has its shape, without its business code, characters
-   5 to 7, and with the first four at the end. It has a loop of its own, out of line: a third call of rest_of_97 makes
-   the compiler lay out the IBANs of a transaction in a slower way. */
-__attribute__((noinline, unused)) static uint64_t rest_of_creditor_id(const uint8_t *s, size_t n) {
-    uint64_t rest = 0;
-    for (size_t i = 7; i < n + 4; i++) {
-        uint8_t byte = s[i < n ? i : i - n];
-        rest = is(byte, DIGIT) ? 10 * rest + (byte - '0') : 100 * rest + (byte - 'A' + 10);
-        if (rest > 10000000000000000) rest %= 97;
-    }
-    return rest % 97;
-}
-
 static inline int good_creditor_id(const uint8_t *s, size_t n) {
-    return is_creditor_id_shaped(s, n) && rest_of_creditor_id(s, n) == 1;
+    return is_creditor_id_shaped(s, n) && rest_of_97(rest_of_97(0, s + 7, n - 7), s, 4) == 1;
 }
 
 /* The refusals of a text, one for each test. */
