@@ -4,8 +4,8 @@
 --   words-put        a part says something
 --   words-forgot     what was said from a part on is taken back
 --   words-kept       a store beyond the words leaves them
---   row-said, row-forgot, row-flaw, row-batches, row-transactions, row-fault   what the row says then
---   said-lent, zero-step, forgot-all, flaw-kept, flaw-noted, fault-kept, fault-noted, count-none, count-one, batch-counted, transaction-counted
+--   row-said, row-forgot, row-two, row-noted, row-counted   what the row says then, and where two numbers are put into a slot
+--   said-lent, zero-step, forgot-all, flaw-noted, fault-noted, batch-counted, transaction-counted, note-kept, note-put, count-none, count-one
 --                    what each arm of the code leaves
 --   fresh-row        nothing was heard
 use Prim.Native.Nat.{ℕ, zero, suc, _+_, _-_, _*_, _≤_, _<_}
@@ -29,8 +29,8 @@ use Rattle.profile.specs.Flaws.{flawOf}
 use Rattle.profile.proofs.Faults.{flaw-number, flaw-back}
 use Rattle.profile.specs.Totals.{freshTally}
 use Rattle.message.specs.Verdict.{orElse}
-use Rattle.heard.specs.State.{ifTrue, ifAny, Word, nothing, Limit, fewer, fresh}
-use Rattle.heard.specs.Row.{heardLength, flawSlot, batchesSlot, transactionsSlot, faultSlot, wordAt, wordsIn, badIn, faultAt, Row, rowOf, stateOf, counted, withSaid, withoutFrom, withBad, withFault, withBatchCounted, withTransactionCounted}
+use Rattle.heard.specs.State.{ifTrue, ifAny, Word, nothing, fewer, fresh}
+use Rattle.heard.specs.Row.{heardLength, flawSlot, batchesSlot, transactionsSlot, faultSlot, wordAt, wordsIn, limitAt, badIn, faultAt, Row, rowBy, rowOf, stateOf, noted, counted, withSaid, withoutFrom, withBad, withFault, withBatchCounted, withTransactionCounted}
 use Rattle.tree.specs.Parts.{partsEnd}
 
 pub any-some : {A : Type 0} (k : ℕ) (a b : A) → (k ≡ 0 → ⊥) → a ≡ ifAny k a b
@@ -143,38 +143,21 @@ module _ (ns : List ℕ) (n : ℕ) (h : length ns ≡ heardLength) (l : n ≤ pa
 
 -- ─── the row ───
 
-abbrev rowWith : (ℕ → Word) → Option Fault → Limit → Limit → Option Fault → Row
-rowWith w b k t f = record { said = w; bad = b; batches = k; transactions = t; fault = f }
+row-by : {v w : ℕ → Word} {g h : ℕ → ℕ} → ((p : ℕ) → v p ≡ w p) → ((i : ℕ) → g i ≡ h i) → rowBy v g ≡ rowBy w h
+row-by s e = λ j. rowBy (λ p. s p j) (λ i. e i j)
 
-row-is : {v w : ℕ → Word} {b b′ : Option Fault} {k k′ t t′ : Limit} {f f′ : Option Fault} → ((p : ℕ) → v p ≡ w p) → b ≡ b′ → k ≡ k′ → t ≡ t′ → f ≡ f′ → rowWith v b k t f ≡ rowWith w b′ k′ t′ f′
-row-is s e g h j = λ i. record { said = λ p. s p i; bad = e i; batches = g i; transactions = h i; fault = j i }
+limit-is : {a a′ b b′ : ℕ} → a ≡ a′ → b ≡ b′ → limitAt a b ≡ limitAt a′ b′
+limit-is e f = λ i. limitAt (e i) (f i)
 
-limit-is : {a a′ b b′ : ℕ} → a ≡ a′ → b ≡ b′ → _≡_ {A = Limit} (record { left = a; place = b }) (record { left = a′; place = b′ })
-limit-is e f = λ i. record { left = e i; place = f i }
+-- the numbers after the words
+abbrev behind : List ℕ → ℕ → ℕ
+behind ns i = getD ns (flawSlot + i) 0
 
--- two numbers that say something, before and after a store elsewhere
-module _ {A : Type 0} (f : ℕ → ℕ → A) (ns ms : List ℕ) (i : ℕ) where
-  pair-is : getD ms i 0 ≡ getD ns i 0 → getD ms (i + 1) 0 ≡ getD ns (i + 1) 0 → f (getD ms i 0) (getD ms (i + 1) 0) ≡ f (getD ns i 0) (getD ns (i + 1) 0)
-  pair-is a b = λ j. f (a j) (b j)
-
-abbrev limit : ℕ → ℕ → Limit
-limit a b = record { left = a; place = b }
-
--- a store in the words leaves the rest
-behind-words : (ns xs : List ℕ) (at i : ℕ) → length ns ≡ heardLength → at + length xs ≤ flawSlot → flawSlot ≤ i → getD (putAt ns at xs) i 0 ≡ getD ns i 0
-behind-words ns xs at i h b l = get-behind ns xs at i (omega arith) (omega arith)
-
+-- a store in the words leaves them
 module _ (ns xs : List ℕ) (at : ℕ) (h : length ns ≡ heardLength) (b : at + length xs ≤ flawSlot) (w : ℕ → Word) (e : (p : ℕ) → wordsIn (putAt ns at xs) p ≡ w p) where
-  row-words : rowOf (putAt ns at xs) ≡ rowWith w (rowOf ns .bad) (rowOf ns .batches) (rowOf ns .transactions) (rowOf ns .fault)
+  row-words : rowOf (putAt ns at xs) ≡ rowBy w (behind ns)
   unfolding rowOf
-  row-words =
-      row-is e (pair-is badIn ns (putAt ns at xs) flawSlot (out flawSlot (omega arith)) (out (flawSlot + 1) (omega arith)))
-      (pair-is limit ns (putAt ns at xs) batchesSlot (out batchesSlot (omega arith)) (out (batchesSlot + 1) (omega arith)))
-      (pair-is limit ns (putAt ns at xs) transactionsSlot (out transactionsSlot (omega arith)) (out (transactionsSlot + 1) (omega arith)))
-      (pair-is faultAt ns (putAt ns at xs) faultSlot (out faultSlot (omega arith)) (out (faultSlot + 1) (omega arith)))
-    where
-      out : (i : ℕ) → flawSlot ≤ i → getD (putAt ns at xs) i 0 ≡ getD ns i 0
-      out i l = behind-words ns xs at i h b l
+  row-words = row-by e (λ i. get-behind ns xs at (flawSlot + i) (omega arith) (omega arith))
 
 pub row-said : (ns : List ℕ) (q : ℕ) (x : Word) → length ns ≡ heardLength → q < partsEnd → rowOf (putAt ns (4 * q) (x .mark ∷ x .start ∷ x .length ∷ x .worth ∷ [])) ≡ withSaid (rowOf ns) q x
 unfolding rowOf
@@ -185,58 +168,61 @@ unfolding rowOf
 row-forgot ns n h l =
     row-words ns (replicate (flawSlot - 4 * n) 0) (4 * n) h (omega (arith, long ns n h l)) (λ p. ifTrue (ltb p n) (wordsIn ns p) nothing) (words-forgot ns n h l)
 
--- two numbers put into a slot
-module _ (ns : List ℕ) (a b : ℕ) (h : length ns ≡ heardLength) where
-  abbrev twoAt : ℕ → List ℕ
-  twoAt at = putAt ns at (a ∷ b ∷ [])
+-- the numbers g with a and b from the place o on
+abbrev pub twoIn : ℕ → ℕ → ℕ → (ℕ → ℕ) → ℕ → ℕ
+twoIn o a b g i = ifTrue (eqb i o) a (ifTrue (eqb i (suc o)) b (g i))
 
-  first-at : (at : ℕ) → at + 2 ≤ heardLength → getD (twoAt at) at 0 ≡ a
-  first-at at l = ap (λ (k : ℕ). getD (twoAt at) k 0) (omega arith) ∙ get-in ns (a ∷ b ∷ []) at 0 (omega arith) (omega arith)
+two-is : (o a b : ℕ) (g h : ℕ → ℕ) (i : ℕ) → (i ≡ o → a ≡ h o) → (i ≡ suc o → b ≡ h (suc o)) → (i ≢ o → i ≢ suc o → g i ≡ h i) → twoIn o a b g i ≡ h i
+two-is o a b g h i x y z =
+    eqb-cases (λ t. ifTrue t a (ifTrue (eqb i (suc o)) b (g i)) ≡ h i) i o (λ e. x e ∙ ap h (sym e))
+    (λ n. eqb-cases (λ t. ifTrue t b (g i) ≡ h i) i (suc o) (λ e. y e ∙ ap h (sym e)) (z n))
 
-  second-at : (at : ℕ) → at + 2 ≤ heardLength → getD (twoAt at) (at + 1) 0 ≡ b
-  second-at at l = get-in ns (a ∷ b ∷ []) at 1 (omega arith) (omega arith)
-
-  less : (at i : ℕ) → at + 2 ≤ heardLength → i < at → getD (twoAt at) i 0 ≡ getD ns i 0
-  less at i l s = get-before ns (a ∷ b ∷ []) at i s (omega arith)
-
-  more : (at i : ℕ) → at + 2 ≤ heardLength → at + 2 ≤ i → getD (twoAt at) i 0 ≡ getD ns i 0
-  more at i l s = get-behind ns (a ∷ b ∷ []) at i s (omega arith)
-
-  words : (at : ℕ) → at + 2 ≤ heardLength → flawSlot ≤ at → (p : ℕ) → wordsIn (twoAt at) p ≡ wordsIn ns p
-  words at l s = words-kept ns (a ∷ b ∷ []) at (omega arith) s
-
-  pub row-flaw : rowOf (twoAt flawSlot) ≡ rowWith (rowOf ns .said) (badIn a b) (rowOf ns .batches) (rowOf ns .transactions) (rowOf ns .fault)
+-- two numbers put into the slot o: what the row says then
+module _ (ns : List ℕ) (o : ℕ) (h : length ns ≡ heardLength) (l : flawSlot + o + 1 < heardLength) where
+  row-two : (a b : ℕ) → rowOf (putAt ns (flawSlot + o) (a ∷ b ∷ [])) ≡ rowBy (wordsIn ns) (twoIn o a b (behind ns))
   unfolding rowOf
-  row-flaw =
-      row-is (words flawSlot (omega arith) (omega arith)) (λ i. badIn (first-at flawSlot (omega arith) i) (second-at flawSlot (omega arith) i))
-      (pair-is limit ns (twoAt flawSlot) batchesSlot (more flawSlot _ (omega arith) (omega arith)) (more flawSlot _ (omega arith) (omega arith)))
-      (pair-is limit ns (twoAt flawSlot) transactionsSlot (more flawSlot _ (omega arith) (omega arith)) (more flawSlot _ (omega arith) (omega arith)))
-      (pair-is faultAt ns (twoAt flawSlot) faultSlot (more flawSlot _ (omega arith) (omega arith)) (more flawSlot _ (omega arith) (omega arith)))
+  row-two a b = row-by (words-kept ns (a ∷ b ∷ []) (flawSlot + o) (omega arith) (omega arith)) (λ i. sym (two-is o a b (behind ns) (behind put) i (λ e. sym first) (λ e. sym second) (other i)))
+    where
+      put : List ℕ
+      put = putAt ns (flawSlot + o) (a ∷ b ∷ [])
 
-  pub row-batches : rowOf (twoAt batchesSlot) ≡ rowWith (rowOf ns .said) (rowOf ns .bad) (limit a b) (rowOf ns .transactions) (rowOf ns .fault)
-  unfolding rowOf
-  row-batches =
-      row-is (words batchesSlot (omega arith) (omega arith)) (pair-is badIn ns (twoAt batchesSlot) flawSlot (less batchesSlot _ (omega arith) (omega arith)) (less batchesSlot _ (omega arith) (omega arith)))
-      (limit-is (first-at batchesSlot (omega arith)) (second-at batchesSlot (omega arith)))
-      (pair-is limit ns (twoAt batchesSlot) transactionsSlot (more batchesSlot _ (omega arith) (omega arith)) (more batchesSlot _ (omega arith) (omega arith)))
-      (pair-is faultAt ns (twoAt batchesSlot) faultSlot (more batchesSlot _ (omega arith) (omega arith)) (more batchesSlot _ (omega arith) (omega arith)))
+      first : behind put o ≡ a
+      first = ap (λ (k : ℕ). getD put k 0) (omega arith) ∙ get-in ns (a ∷ b ∷ []) (flawSlot + o) 0 (omega arith) (omega arith)
 
-  pub row-transactions : rowOf (twoAt transactionsSlot) ≡ rowWith (rowOf ns .said) (rowOf ns .bad) (rowOf ns .batches) (limit a b) (rowOf ns .fault)
-  unfolding rowOf
-  row-transactions =
-      row-is (words transactionsSlot (omega arith) (omega arith))
-      (pair-is badIn ns (twoAt transactionsSlot) flawSlot (less transactionsSlot _ (omega arith) (omega arith)) (less transactionsSlot _ (omega arith) (omega arith)))
-      (pair-is limit ns (twoAt transactionsSlot) batchesSlot (less transactionsSlot _ (omega arith) (omega arith)) (less transactionsSlot _ (omega arith) (omega arith)))
-      (limit-is (first-at transactionsSlot (omega arith)) (second-at transactionsSlot (omega arith)))
-      (pair-is faultAt ns (twoAt transactionsSlot) faultSlot (more transactionsSlot _ (omega arith) (omega arith)) (more transactionsSlot _ (omega arith) (omega arith)))
+      second : behind put (suc o) ≡ b
+      second = ap (λ (k : ℕ). getD put k 0) (omega arith) ∙ get-in ns (a ∷ b ∷ []) (flawSlot + o) 1 (omega arith) (omega arith)
 
-  pub row-fault : rowOf (twoAt faultSlot) ≡ rowWith (rowOf ns .said) (rowOf ns .bad) (rowOf ns .batches) (rowOf ns .transactions) (faultAt a b)
+      other : (i : ℕ) → i ≢ o → i ≢ suc o → behind ns i ≡ behind put i
+      other i n m =
+          ltb-cases (λ z. behind ns i ≡ behind put i) i o
+          (λ s. sym (get-before ns (a ∷ b ∷ []) (flawSlot + o) (flawSlot + i) (omega arith) (omega arith)))
+          (λ g. sym (get-behind ns (a ∷ b ∷ []) (flawSlot + o) (flawSlot + i) (omega (arith, apart g)) (omega arith)))
+        where
+          apart : o ≤ i → suc o < i
+          apart g = ltb-cases (λ z. suc o < i) (suc o) i (λ s. s) (λ t. absurd (ltb-cases (λ z. ⊥) o i (λ s. m (omega arith)) (λ u. n (omega arith))))
+
+  -- the same two numbers change nothing
+  row-same : rowOf ns ≡ rowBy (wordsIn ns) (twoIn o (behind ns o) (behind ns (suc o)) (behind ns))
   unfolding rowOf
-  row-fault =
-      row-is (words faultSlot (omega arith) (omega arith)) (pair-is badIn ns (twoAt faultSlot) flawSlot (less faultSlot _ (omega arith) (omega arith)) (less faultSlot _ (omega arith) (omega arith)))
-      (pair-is limit ns (twoAt faultSlot) batchesSlot (less faultSlot _ (omega arith) (omega arith)) (less faultSlot _ (omega arith) (omega arith)))
-      (pair-is limit ns (twoAt faultSlot) transactionsSlot (less faultSlot _ (omega arith) (omega arith)) (less faultSlot _ (omega arith) (omega arith)))
-      (λ i. faultAt (first-at faultSlot (omega arith) i) (second-at faultSlot (omega arith) i))
+  row-same = row-by (λ p. refl) (λ i. sym (two-is o (behind ns o) (behind ns (suc o)) (behind ns) (behind ns) i (λ e. refl) (λ e. refl) (λ n m. refl)))
+
+  -- a first fault is noted, or an earlier one stays
+  row-noted : (n p : ℕ) → rowOf (noted ns (flawSlot + o) n p) ≡ rowBy (wordsIn ns) (twoIn o (ifAny (behind ns o) (behind ns o) n) (ifAny (behind ns o) (behind ns (suc o)) p) (behind ns))
+  row-noted n p = go (behind ns o) refl
+    where
+      go : (k : ℕ) → behind ns o ≡ k
+          → rowOf (ifAny k ns (putAt ns (flawSlot + o) (n ∷ p ∷ []))) ≡ rowBy (wordsIn ns) (twoIn o (ifAny k (behind ns o) n) (ifAny k (behind ns (suc o)) p) (behind ns))
+      go zero e = row-two n p
+      go (suc k) e = row-same
+
+  -- an element is counted, or none is left
+  row-counted : (p : ℕ) → rowOf (counted ns (flawSlot + o) p) ≡ rowBy (wordsIn ns) (twoIn o (behind ns o - 1) (ifAny (behind ns o) p (behind ns (suc o))) (behind ns))
+  row-counted p = go (behind ns o) refl
+    where
+      go : (k : ℕ) → behind ns o ≡ k
+          → rowOf (ifAny k (putAt ns (flawSlot + o) ((behind ns o - 1) ∷ p ∷ [])) ns) ≡ rowBy (wordsIn ns) (twoIn o (behind ns o - 1) (ifAny k p (behind ns (suc o))) (behind ns))
+      go zero e = row-same ∙ ap (λ (k : ℕ). rowBy (wordsIn ns) (twoIn o k (behind ns (suc o)) (behind ns))) (omega (arith, e))
+      go (suc k) e = row-two (behind ns o - 1) p
 
 -- ─── what each arm of the code leaves ───
 
@@ -260,65 +246,64 @@ forgot-all ns ms n i h l g e =
     let z : flawSlot - i ≡ 0 = omega arith in
     ap rowOf (sym (put-nil ms i) ∙ ap (λ (k : ℕ). putAt ms i (replicate k 0)) (sym z) ∙ e) ∙ row-forgot ns n h l
 
+-- a first fault in two numbers, of which the first is k
+flaw-one : (k q p : ℕ) (f : Flaw) → badIn (ifAny k k (flawNumber f)) (ifAny k q p) ≡ orElse (badIn k q) (some (fault (flawNumber f) p))
+flaw-one zero q p f = bad-is (flawNumber f) p f refl
+flaw-one (suc k) q p f = refl
+
+fault-one : (k q n p : ℕ) → 1 ≤ n → faultAt (ifAny k k n) (ifAny k q p) ≡ orElse (faultAt k q) (some (fault n p))
+fault-one zero q zero p l = absurd (not-suc-le-zero l)
+fault-one zero q (suc n) p l = refl
+fault-one (suc k) q n p l = refl
+
+-- the two numbers of a limit after one element more
+fewer-is : (k q p : ℕ) → limitAt (k - 1) (ifAny k p q) ≡ fewer k q p
+fewer-is zero q p = limit-is (omega arith) refl
+fewer-is (suc k) q p = limit-is (omega arith) refl
+
 module _ (ns : List ℕ) (h : length ns ≡ heardLength) where
-  pub flaw-kept : (f : Option Fault) → (getD ns flawSlot 0 ≡ 0 → ⊥) → rowOf ns ≡ withBad (rowOf ns) f
+  abbrev was : Row
+  was = rowBy (wordsIn ns) (behind ns)
+
+  pub flaw-noted : (f : Flaw) (p : ℕ) → rowOf (noted ns flawSlot (flawNumber f) p) ≡ withBad (rowOf ns) (some (fault (flawNumber f) p))
   unfolding rowOf
-  flaw-kept f n = row-is (λ p. refl) (go (getD ns flawSlot 0) (getD ns (flawSlot + 1) 0) n) refl refl refl
-    where
-      go : (m p : ℕ) → (m ≡ 0 → ⊥) → badIn m p ≡ orElse (badIn m p) f
-      go zero p n = absurd (n refl)
-      go (suc m) p n = refl
+  flaw-noted f p =
+      row-noted ns 0 h (omega arith) (flawNumber f) p
+      ∙ (λ i. record { said = was .said; bad = flaw-one (behind ns 0) (behind ns 1) p f i; batches = was .batches; transactions = was .transactions; fault = was .fault })
 
-  pub flaw-noted : (m p : ℕ) (f : Flaw) → getD ns flawSlot 0 ≡ 0 → m ≡ flawNumber f → rowOf (set (set ns flawSlot m) (flawSlot + 1) p) ≡ withBad (rowOf ns) (some (fault (flawNumber f) p))
+  pub fault-noted : (n p : ℕ) → 1 ≤ n → rowOf (noted ns faultSlot n p) ≡ withFault (rowOf ns) (some (fault n p))
   unfolding rowOf
-  flaw-noted m p f z e =
-      ap rowOf (put-two ns flawSlot m p (omega arith)) ∙ row-flaw ns m p h
-      ∙ row-is (λ q. refl) (bad-is m p f e ∙ ap (λ (k : ℕ). orElse (badIn k (getD ns (flawSlot + 1) 0)) (some (fault (flawNumber f) p))) (sym z)) refl refl refl
-
-  pub fault-kept : (f : Option Fault) → (getD ns faultSlot 0 ≡ 0 → ⊥) → rowOf ns ≡ withFault (rowOf ns) f
-  unfolding rowOf
-  fault-kept f n = row-is (λ p. refl) refl refl refl (go (getD ns faultSlot 0) (getD ns (faultSlot + 1) 0) n)
-    where
-      go : (m p : ℕ) → (m ≡ 0 → ⊥) → faultAt m p ≡ orElse (faultAt m p) f
-      go zero p n = absurd (n refl)
-      go (suc m) p n = refl
-
-  pub fault-noted : (m p : ℕ) → getD ns faultSlot 0 ≡ 0 → 1 ≤ m → rowOf (set (set ns faultSlot m) (faultSlot + 1) p) ≡ withFault (rowOf ns) (some (fault m p))
-  unfolding rowOf
-  fault-noted m p z l =
-      ap rowOf (put-two ns faultSlot m p (omega arith)) ∙ row-fault ns m p h
-      ∙ row-is (λ q. refl) refl refl refl (go m l ∙ ap (λ (k : ℕ). orElse (faultAt k (getD ns (faultSlot + 1) 0)) (some (fault m p))) (sym z))
-    where
-      go : (m : ℕ) → 1 ≤ m → faultAt m p ≡ some (fault m p)
-      go zero l = absurd (not-suc-le-zero l)
-      go (suc m) l = refl
-
-  pub count-none : (i p : ℕ) → getD ns i 0 ≡ 0 → ns ≡ counted ns i p
-  count-none i p z = rw z refl
-
-  pub count-one : (i p : ℕ) → i + 1 < heardLength → (getD ns i 0 ≡ 0 → ⊥) → set (set ns i (getD ns i 0 - 1)) (i + 1) p ≡ counted ns i p
-  count-one i p l n = put-two ns i (getD ns i 0 - 1) p (omega arith) ∙ any-some (getD ns i 0) _ ns n
-
-  -- the two numbers of a limit after one element more
-  fewer-is : (k q p : ℕ) → (k ≡ 0 → ⊥) → limit (k - 1) p ≡ fewer k q p
-  fewer-is zero q p n = absurd (n refl)
-  fewer-is (suc k) q p n = limit-is (omega arith) refl
+  fault-noted n p l =
+      row-noted ns 6 h (omega arith) n p
+      ∙ (λ i. record { said = was .said; bad = was .bad; batches = was .batches; transactions = was .transactions; fault = fault-one (behind ns 6) (behind ns 7) n p l i })
 
   pub batch-counted : (p : ℕ) → rowOf (counted ns batchesSlot p) ≡ withBatchCounted (rowOf ns) p
   unfolding rowOf
-  batch-counted p = go (getD ns batchesSlot 0) refl
-    where
-      go : (k : ℕ) → getD ns batchesSlot 0 ≡ k → rowOf (ifAny k (putAt ns batchesSlot ((getD ns batchesSlot 0 - 1) ∷ p ∷ [])) ns) ≡ withBatchCounted (rowOf ns) p
-      go zero e = row-is (λ q. refl) refl (ap (λ (k : ℕ). limit k (getD ns (batchesSlot + 1) 0)) e ∙ ap (λ (k : ℕ). fewer k (getD ns (batchesSlot + 1) 0) p) (sym e)) refl refl
-      go (suc k) e = row-batches ns _ p h ∙ row-is (λ q. refl) refl (fewer-is (getD ns batchesSlot 0) _ p (λ z. absurd (omega (arith, e, z)))) refl refl
+  batch-counted p =
+      row-counted ns 2 h (omega arith) p
+      ∙ (λ i. record { said = was .said; bad = was .bad; batches = fewer-is (behind ns 2) (behind ns 3) p i; transactions = was .transactions; fault = was .fault })
 
   pub transaction-counted : (p : ℕ) → rowOf (counted ns transactionsSlot p) ≡ withTransactionCounted (rowOf ns) p
   unfolding rowOf
-  transaction-counted p = go (getD ns transactionsSlot 0) refl
-    where
-      go : (k : ℕ) → getD ns transactionsSlot 0 ≡ k → rowOf (ifAny k (putAt ns transactionsSlot ((getD ns transactionsSlot 0 - 1) ∷ p ∷ [])) ns) ≡ withTransactionCounted (rowOf ns) p
-      go zero e = row-is (λ q. refl) refl refl (ap (λ (k : ℕ). limit k (getD ns (transactionsSlot + 1) 0)) e ∙ ap (λ (k : ℕ). fewer k (getD ns (transactionsSlot + 1) 0) p) (sym e)) refl
-      go (suc k) e = row-transactions ns _ p h ∙ row-is (λ q. refl) refl refl (fewer-is (getD ns transactionsSlot 0) _ p (λ z. absurd (omega (arith, e, z)))) refl
+  transaction-counted p =
+      row-counted ns 4 h (omega arith) p
+      ∙ (λ i. record { said = was .said; bad = was .bad; batches = was .batches; transactions = fewer-is (behind ns 4) (behind ns 5) p i; fault = was .fault })
+
+-- ─── one number after the other ───
+
+module _ (ns : List ℕ) (i n p : ℕ) where
+  pub note-kept : (getD ns i 0 ≡ 0 → ⊥) → ns ≡ noted ns i n p
+  note-kept z = any-some (getD ns i 0) ns _ z
+
+  pub note-put : length ns ≡ heardLength → i + 1 < heardLength → getD ns i 0 ≡ 0 → set (set ns i n) (i + 1) p ≡ noted ns i n p
+  note-put h l z = put-two ns i n p (omega arith) ∙ rw z refl
+
+module _ (ns : List ℕ) (h : length ns ≡ heardLength) (i p : ℕ) where
+  pub count-none : getD ns i 0 ≡ 0 → ns ≡ counted ns i p
+  count-none z = rw z refl
+
+  pub count-one : i + 1 < heardLength → (getD ns i 0 ≡ 0 → ⊥) → set (set ns i (getD ns i 0 - 1)) (i + 1) p ≡ counted ns i p
+  count-one l n = put-two ns i (getD ns i 0 - 1) p (omega arith) ∙ any-some (getD ns i 0) _ ns n
 
 -- ─── nothing was heard ───
 

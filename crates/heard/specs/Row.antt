@@ -1,9 +1,10 @@
 -- WHAT WAS HEARD, IN A ROW OF NUMBERS, as it is lent from event to event. Not to be believed: no promise to a caller speaks of it.
 -- Four numbers for each part, at 4 × its number: its word. After them two for each first fault.
 --   heardLength, flawSlot ..   how many numbers they are, where the first faults stand
---   Row, rowOf ns      what the numbers say
+--   Row, rowBy, rowOf ns   what the numbers say
 --   stateOf ns y s r   with the tally y and the tables s and r
 --   badIn, faultAt     a first fault in two numbers
+--   noted, counted     a first fault noted at a slot, an element counted there
 --   withSaid, withoutFrom, withBad, withBatchCounted, withTransactionCounted, withFault   what each of the stores does
 use Prim.Native.Nat.{ℕ, _+_, _-_, _*_}
 use mathlib.Core.List.{List, [], _∷_}
@@ -19,19 +20,19 @@ use Rattle.message.specs.Verdict.{orElse}
 use Rattle.heard.specs.State.{ifTrue, ifAny, Word, nothing, Limit, fewer, State}
 
 abbrev pub flawSlot : ℕ
-flawSlot = 72
+flawSlot = 4 * partsEnd
 
 abbrev pub batchesSlot : ℕ
-batchesSlot = 74
+batchesSlot = flawSlot + 2
 
 abbrev pub transactionsSlot : ℕ
-transactionsSlot = 76
+transactionsSlot = flawSlot + 4
 
 abbrev pub faultSlot : ℕ
-faultSlot = 78
+faultSlot = flawSlot + 6
 
 abbrev pub heardLength : ℕ
-heardLength = 80
+heardLength = flawSlot + 8
 
 -- ─── what the numbers say ───
 
@@ -41,8 +42,8 @@ wordAt ns p = record { mark = getD ns (4 * p) 0; start = getD ns (4 * p + 1) 0; 
 abbrev pub wordsIn : List ℕ → ℕ → Word
 wordsIn ns p = ifTrue (ltb p partsEnd) (wordAt ns p) nothing
 
-abbrev pub limitAt : List ℕ → ℕ → Limit
-limitAt ns i = record { left = getD ns i 0; place = getD ns (i + 1) 0 }
+abbrev pub limitAt : ℕ → ℕ → Limit
+limitAt n p = record { left = n; place = p }
 
 -- a number that is not 0 is read as that of a flaw
 abbrev pub badIn : ℕ → ℕ → Option Fault
@@ -58,14 +59,18 @@ pub record Row : Type 0 where
   pub transactions : Limit
   pub fault : Option Fault
 
-unfoldable pub rowOf : List ℕ → Row
-rowOf ns = record {
-  said = wordsIn ns;
-  bad = badIn (getD ns flawSlot 0) (getD ns (flawSlot + 1) 0);
-  batches = limitAt ns batchesSlot;
-  transactions = limitAt ns transactionsSlot;
-  fault = faultAt (getD ns faultSlot 0) (getD ns (faultSlot + 1) 0);
+-- of the words, and of the numbers after them, from 0 on
+abbrev pub rowBy : (ℕ → Word) → (ℕ → ℕ) → Row
+rowBy said g = record {
+  said = said;
+  bad = badIn (g 0) (g 1);
+  batches = limitAt (g 2) (g 3);
+  transactions = limitAt (g 4) (g 5);
+  fault = faultAt (g 6) (g 7);
 }
+
+unfoldable pub rowOf : List ℕ → Row
+rowOf ns = rowBy (wordsIn ns) (λ i. getD ns (flawSlot + i) 0)
 
 abbrev pub stateWith : Row → Tally → List ℕ → List ℕ → State
 stateWith w y s r = record {
@@ -83,6 +88,10 @@ abbrev pub stateOf : List ℕ → Tally → List ℕ → List ℕ → State
 stateOf ns y s r = stateWith (rowOf ns) y s r
 
 -- ─── what a store does ───
+
+-- a first fault at the slot i: an earlier one stays
+abbrev pub noted : List ℕ → ℕ → ℕ → ℕ → List ℕ
+noted ns i n p = ifAny (getD ns i 0) ns (putAt ns i (n ∷ p ∷ []))
 
 -- one element more, of those that the numbers at i count
 abbrev pub counted : List ℕ → ℕ → ℕ → List ℕ

@@ -64,7 +64,7 @@ impl Word {
 pub struct Slot(pub usize);
 
 impl Slot {
-    // The first text that breaks its rule: the kind of rule, from 1, and the text's start.
+    // The first text that breaks its rule: the number of its refusal, and where it starts.
     pub const FLAW: usize = Word::END * Part::END;
 
     // How many batches may still come before one is too many, and the place of the last one.

@@ -7,7 +7,7 @@ ghost use lib.ListN.{length, getD};
 ghost use Rattle.profile.specs.Refusals.{fault, flawNumber};
 ghost use Rattle.profile.specs.Totals.{freshTally};
 ghost use Rattle.heard.specs.State.{countOf, sumOf, fresh};
-ghost use Rattle.heard.specs.Row.{heardLength, rowOf, stateOf, counted, withSaid, withoutFrom, withBad, withFault, withBatchCounted, withTransactionCounted};
+ghost use Rattle.heard.specs.Row.{heardLength, rowOf, stateOf, noted, counted, withSaid, withoutFrom, withBad, withFault, withBatchCounted, withTransactionCounted};
 ghost use Rattle.tree.specs.Parts.{partsEnd};
 use crate::Slot;
 use crate::Word;
@@ -94,16 +94,24 @@ pub fn forget(heard: &mut [u64], from: usize)
 
 // ─── first faults ───
 
+// The number and the place of a fault, in the two numbers at `slot`, where none stands there yet.
+fn note(heard: &mut [u64], slot: usize, number: u64, place: u64)
+    requires { ⌜ (length (now heard) ≡ heardLength) × (slot + 1 < heardLength) ⌝ }
+    ensures { λ _. ⌜ now (heard .exit) ≡ noted (now (heard .entry)) slot number place ⌝ }
+{
+    if heard[slot] != 0 {
+        return;
+    }
+    heard[slot] = number;
+    heard[slot + 1] = place;
+}
+
 // A text that starts here breaks its rule.
 pub fn note_flaw(heard: &mut [u64], flaw: Flaw, start: usize)
     requires { ⌜ length (now heard) ≡ heardLength ⌝ }
     ensures { λ _. ⌜ rowOf (now (heard .exit)) ≡ withBad (rowOf (now (heard .entry))) (some (fault (flawNumber flaw) start)) ⌝ }
 {
-    if heard[Slot::FLAW] != 0 {
-        return;
-    }
-    heard[Slot::FLAW] = flaw.number();
-    heard[Slot::FLAW + 1] = start as u64;
+    note(heard, Slot::FLAW, flaw.number(), start as u64);
 }
 
 // The declared count or sum of a batch differs: the number of the refusal, and where that text starts.
@@ -111,11 +119,7 @@ pub fn note_fault(heard: &mut [u64], number: u64, start: u64)
     requires { ⌜ (length (now heard) ≡ heardLength) × (1 ≤ number) ⌝ }
     ensures { λ _. ⌜ rowOf (now (heard .exit)) ≡ withFault (rowOf (now (heard .entry))) (some (fault number start)) ⌝ }
 {
-    if heard[Slot::FAULT] != 0 {
-        return;
-    }
-    heard[Slot::FAULT] = number;
-    heard[Slot::FAULT + 1] = start;
+    note(heard, Slot::FAULT, number, start);
 }
 
 // One element more at this place, of those that the two numbers at `slot` count.
