@@ -1,103 +1,20 @@
-/* The job of desk_check by hand, in plain C: what the library is timed against. include/desk.h says what it does.
+/* The job of desk_check by hand, in plain C: what the library is timed against. include/desk.h says what it
+   does.
 
-   One pass reads the form by descent, an element a function, tries each text's rule as it comes by and keeps what the rows need; the
-   tables are filled from that when nothing is left to refuse.
+   One pass reads the form by descent, an element a function, tries each text's rule as it comes by and keeps
+   what the rows need; the tables are filled from that when nothing is left to refuse. How tags and texts are
+   read stands in plain_reading.h, addresses in plain_address.h, the rules of the texts in plain_rules.h.
 
    BESIDE: it is called plain_check, to stand in one program with the library. */
 #ifdef BESIDE
 #define desk_check plain_check
 #endif
 #include "desk.h"
+#include "plain_address.h"
+#include "plain_reading.h"
 #include "plain_rules.h"
 
-/* ---- What is kept */
-
-struct text { unsigned start, length; };
-
-enum { END_TO_END_ID, MANDATE_ID, DEBTOR, IBAN, REMITTANCE, TEXTS };
-
-struct slip { uint64_t batch, cents; struct text text[TEXTS]; };
-
-/* A declared count or sum: where its text starts, null where there is none, and its value. */
-struct declared { const uint8_t *at; uint64_t value; };
-
-struct batch { uint64_t before, count, cents, terms; struct declared declared_count, declared_sum; };
-
-struct reading {
-    const uint8_t *start, *end;
-    const uint8_t *fault;                   /* the first byte that cannot stand in the form */
-    const uint8_t *batch_65, *transaction_2001, *bad_text; /* null as long as there is none */
-    const uint8_t *differs;                 /* the first total of a batch that differs, null as long as there is none */
-    uint64_t differs_by;                    /* its number */
-    struct declared count, sum;             /* the header's */
-    uint64_t batches, transactions, cents;
-    struct batch *batch;                    /* of DESK_BATCHES + 1 */
-    struct slip *slip;                      /* of DESK_TRANSACTIONS + 1 */
-};
-
-/* ---- The form
-   A function for an element takes the byte after its opening tag and gives the one after its closing tag; a function for a text
-   takes its start and gives its end. Either gives null at a fault of the form. */
-
-static inline int stands(const uint8_t *p, const uint8_t *end, const char *s, size_t n) {
-    return (size_t)(end - p) >= n && memcmp(p, s, n) == 0;
-}
-
-/* None of the tags stands here: the fault is after the longest beginning that is shared with one of them. */
-__attribute__((cold, noinline)) static const uint8_t *fault(struct reading *r, const uint8_t *p, const char *const *tags) {
-    r->fault = p;
-    for (const char *tag; (tag = *tags) != NULL; tags++) {
-        const uint8_t *q = p;
-        while (q < r->end && *tag != 0 && *q == (uint8_t)*tag) q++, tag++;
-        if (q > r->fault) r->fault = q;
-    }
-    return NULL;
-}
-
-#define STANDS(tag) stands(p, r->end, tag, sizeof tag - 1)
-#define FAULT(...) fault(r, p, (const char *const[]){__VA_ARGS__, NULL})
-#define SPACES() (p = run(p, r->end, SPACE))
-#define PASS(tag)                            \
-    do {                                     \
-        if (!STANDS(tag)) return FAULT(tag); \
-        p += sizeof tag - 1;                 \
-    } while (0)
-#define TAG(tag)   \
-    do {           \
-        SPACES();  \
-        PASS(tag); \
-    } while (0)
-#define OPTIONAL(tag) (SPACES(), STANDS(tag))
-#define READ(part)                            \
-    do {                                      \
-        if ((p = (part)) == NULL) return NULL; \
-    } while (0)
-/* An element that has text. */
-#define ELEMENT(name, text)  \
-    do {                     \
-        TAG("<" name ">");   \
-        READ(text);          \
-        PASS("</" name ">"); \
-    } while (0)
-
 /* ---- Texts */
-
-static inline const uint8_t *text_end(struct reading *r, const uint8_t *p) {
-    while (p < r->end && *p != '<') p++;
-    return p < r->end ? p : FAULT("");
-}
-
-/* A text that breaks its rule. */
-__attribute__((cold, noinline)) static const uint8_t *bad_text(struct reading *r, const uint8_t *p) {
-    if (r->bad_text == NULL) r->bad_text = p;
-    return text_end(r, p);
-}
-
-static inline const uint8_t *letters(struct reading *r, const uint8_t *p, size_t most) {
-    const uint8_t *q = run(p, r->end, LETTER);
-    size_t n = (size_t)(q - p);
-    return q < r->end && *q == '<' && n >= 1 && n <= most ? q : bad_text(r, p);
-}
 
 static inline const uint8_t *id(struct reading *r, const uint8_t *p) {
     const uint8_t *q = letters(r, p, MOST_ID);
@@ -108,19 +25,17 @@ static inline const uint8_t *name(struct reading *r, const uint8_t *p) { return 
 
 #define CODE(code) (STANDS(code "<") ? p + sizeof code - 1 : bad_text(r, p))
 
-#define BY_RULE(name, ...)                                                        \
-    static inline const uint8_t *name(struct reading *r, const uint8_t *p) {      \
-        const uint8_t *q = text_end(r, p);                                        \
-        if (q == NULL) return NULL;                                               \
-        size_t n = (size_t)(q - p);                                               \
-        return (__VA_ARGS__) ? q : bad_text(r, p);                                \
-    }
 BY_RULE(date, good_date(p, n))
 BY_RULE(time, good_time(p, n))
 BY_RULE(iban, good_iban(p, n))
 BY_RULE(bic, good_bic(p, n))
 BY_RULE(creditor_id, good_creditor_id(p, n))
 BY_RULE(booking, (n == 4 && memcmp(p, "true", 4) == 0) || (n == 5 && memcmp(p, "false", 5) == 0))
+
+static inline const uint8_t *collection_date(struct reading *r, const uint8_t *p) {
+    r->collected = p;
+    return date(r, p);
+}
 
 static inline const uint8_t *count(struct reading *r, const uint8_t *p, struct declared *declared) {
     const uint8_t *q = text_end(r, p);
@@ -219,7 +134,8 @@ static const uint8_t *transaction(struct reading *r, const uint8_t *p, struct sl
     TAG("</DbtrAgt>");
     TAG("<Dbtr>");
     ELEMENT("Nm", kept(r, &slip->text[DEBTOR], p, name(r, p)));
-    TAG("</Dbtr>");
+    ADDRESS_BEFORE("</Dbtr>");
+    PASS("</Dbtr>");
     TAG("<DbtrAcct>");
     TAG("<Id>");
     ELEMENT("IBAN", kept(r, &slip->text[IBAN], p, iban(r, p)));
@@ -284,10 +200,11 @@ static const uint8_t *batch(struct reading *r, const uint8_t *p, struct batch *b
     TAG("</LclInstrm>");
     ELEMENT("SeqTp", sequence(r, p, &batch->terms));
     TAG("</PmtTpInf>");
-    ELEMENT("ReqdColltnDt", date(r, p));
+    ELEMENT("ReqdColltnDt", collection_date(r, p));
     TAG("<Cdtr>");
     ELEMENT("Nm", name(r, p));
-    TAG("</Cdtr>");
+    ADDRESS_BEFORE("</Cdtr>");
+    PASS("</Cdtr>");
     TAG("<CdtrAcct>");
     TAG("<Id>");
     ELEMENT("IBAN", iban(r, p));
@@ -365,6 +282,8 @@ __attribute__((cold, noinline)) static enum kind kind_of(const uint8_t *p, const
         {"<MndtId>", ID_KIND},      {"<Nm>", NAME_KIND},        {"<Ustrd>", REMITTANCE_KIND}, {"<NbOfTxs>", NUMBER_KIND},
         {"<CtrlSum>", NUMBER_KIND}, {"EUR\">", NUMBER_KIND},    {"<CreDtTm>", DATE_KIND},     {"<ReqdColltnDt>", DATE_KIND},
         {"<DtOfSgntr>", DATE_KIND}, {"<IBAN>", IBAN_KIND},      {"<BICFI>", SHAPE_KIND},
+        {"<StrtNm>", ADDRESS_LINE_KIND}, {"<AdrLine>", ADDRESS_LINE_KIND}, {"<TwnNm>", TOWN_KIND},
+        {"<BldgNb>", ADDRESS_CODE_KIND}, {"<PstCd>", ADDRESS_CODE_KIND},   {"<Ctry>", SHAPE_KIND},
     };
     for (size_t i = 0; i < sizeof KINDS / sizeof *KINDS; i++) {
         size_t n = strlen(KINDS[i].tag);
@@ -412,6 +331,7 @@ struct desk_checked desk_check(const uint8_t *bytes, size_t length, uint64_t *sl
     if (r.batch_65 != NULL) return refused(3, PLACE(r.batch_65));
     if (r.transaction_2001 != NULL) return refused(4, PLACE(r.transaction_2001));
     if (r.bad_text != NULL) return refused(bad_text_number(r.bad_text), PLACE(r.bad_text));
+    if (r.bad_mix != NULL) return refused(59, PLACE(r.bad_mix));
     if (r.differs != NULL) return refused(r.differs_by, PLACE(r.differs));
     if (r.count.value != r.transactions) return refused(8, PLACE(r.count.at));
     if (r.sum.value != r.cents) return refused(9, PLACE(r.sum.at));

@@ -7,7 +7,10 @@
 #include <stdint.h>
 #include <string.h>
 
-enum { MOST_ID = 35, MOST_NAME = 70, MOST_REMITTANCE = 140 };
+enum {
+    MOST_ID = 35, MOST_NAME = 70, MOST_REMITTANCE = 140,
+    MOST_ADDRESS_LINE = 70, MOST_ADDRESS_CODE = 16, MOST_TOWN = 35
+};
 
 /* What a byte is. */
 enum { LETTER = 1, DIGIT = 2, CAPITAL = 4, SMALL = 8, SPACE = 16 };
@@ -117,12 +120,15 @@ static inline int good_creditor_id(const uint8_t *s, size_t n) {
     return is_creditor_id_shaped(s, n) && rest_of_97(rest_of_97(0, s + 7, n - 7), s, 4) == 1;
 }
 
+static inline int good_country(const uint8_t *s, size_t n) { return n == 2 && all(s, n, CAPITAL); }
+
 /* The refusals of a text, one for each test. */
 enum { BAD_LENGTH = 51, BAD_LETTER, BAD_SLASH, BAD_NUMBER, BAD_DATE, BAD_CODE, BAD_SHAPE, BAD_CHECK_DIGITS };
 
 /* What a text is. A kind that has one test is the refusal of that test. */
 enum kind {
-    ID_KIND, NAME_KIND, REMITTANCE_KIND, IBAN_KIND, CREDITOR_ID_KIND,
+    ID_KIND, NAME_KIND, REMITTANCE_KIND, ADDRESS_LINE_KIND, ADDRESS_CODE_KIND, TOWN_KIND,
+    IBAN_KIND, CREDITOR_ID_KIND,
     NUMBER_KIND = BAD_NUMBER, DATE_KIND = BAD_DATE, CODE_KIND = BAD_CODE, SHAPE_KIND = BAD_SHAPE
 };
 
@@ -133,11 +139,15 @@ __attribute__((cold, noinline, unused)) static int is_iban_shaped(const uint8_t 
 
 /* The refusal of a bad text: that of the first test that it fails. */
 __attribute__((cold, noinline, unused)) static uint64_t refusal(enum kind kind, const uint8_t *s, size_t n) {
+    static const size_t MOST[] = {
+        [ID_KIND] = MOST_ID, [NAME_KIND] = MOST_NAME, [REMITTANCE_KIND] = MOST_REMITTANCE,
+        [ADDRESS_LINE_KIND] = MOST_ADDRESS_LINE, [ADDRESS_CODE_KIND] = MOST_ADDRESS_CODE,
+        [TOWN_KIND] = MOST_TOWN,
+    };
     if (kind == IBAN_KIND) return is_iban_shaped(s, n) ? BAD_CHECK_DIGITS : BAD_SHAPE;
     if (kind == CREDITOR_ID_KIND) return is_creditor_id_shaped(s, n) ? BAD_CHECK_DIGITS : BAD_SHAPE;
     if (kind >= NUMBER_KIND) return kind;
-    size_t most = kind == ID_KIND ? MOST_ID : kind == NAME_KIND ? MOST_NAME : MOST_REMITTANCE;
-    if (n < 1 || n > most) return BAD_LENGTH;
+    if (n < 1 || n > MOST[kind]) return BAD_LENGTH;
     return all(s, n, LETTER) ? BAD_SLASH : BAD_LETTER;
 }
 

@@ -33,8 +33,18 @@ static size_t say_empty(FILE *to) {
 
 /* ─── plain texts: a length, the letter set, slashes ─── */
 
+static size_t most_of(enum rule rule) {
+    switch (rule) {
+    case LETTERS_16: return 16;
+    case IDENTIFIER:
+    case LETTERS_35: return 35;
+    case NAME: return 70;
+    default: return 140;
+    }
+}
+
 static size_t length_flaw(FILE *to, enum rule rule, struct text text) {
-    size_t most = rule == IDENTIFIER ? 35 : rule == NAME ? 70 : 140;
+    size_t most = most_of(rule);
     if (text.length == 0) return say_empty(to);
     say_length(to, text);
     fprintf(to, "; at most %zu are allowed.", most);
@@ -183,12 +193,15 @@ static int has_shape(FILE *to, struct text text, const struct shape *shape, size
         fprintf(to, "; %s has at most %zu.", shape->of, front + shape->most);
         return 0;
     }
-    if (text.length == 0)
+    if (text.length >= front + shape->least) return 1;
+    if (text.length == 0) {
         fprintf(to, "It is empty; %s has at least %zu characters.", shape->of, front + shape->least);
-    else if (text.length < front + shape->least)
-        fprintf(to, "It ends after %zu characters; %s has at least %zu.", text.length, shape->of,
-                front + shape->least);
-    return text.length >= front + shape->least;
+        return 0;
+    }
+    fputs("It ends after ", to);
+    print_many(to, text.length, "character", "characters");
+    fprintf(to, "; %s has at least %zu.", shape->of, front + shape->least);
+    return 0;
 }
 
 /* ─── dates ─── */
@@ -240,14 +253,19 @@ static size_t date_flaw(FILE *to, enum rule rule, struct text text) {
     return rule == TIME ? clock_flaw(to, text) : 0;
 }
 
-/* ─── IBAN, BIC, creditor identifier ─── */
+/* ─── IBAN, BIC, creditor identifier, country ─── */
 
-static size_t shape_flaw(FILE *to, enum rule rule, struct text text) {
+static const struct shape *shape_of(enum rule rule) {
     static const struct shape iban = {"AA99", 'X', 1, 30, "an IBAN"};
     static const struct shape bic = {"NNNNAANN", 'N', 0, 3, "a BIC"};
     static const struct shape creditor = {"AA99NNN", 'N', 1, 28, "a creditor identifier"};
+    static const struct shape country = {"AA", 0, 0, 0, "a country, as CH,"};
+    return rule == IBAN ? &iban : rule == BIC ? &bic : rule == COUNTRY ? &country : &creditor;
+}
+
+static size_t shape_flaw(FILE *to, enum rule rule, struct text text) {
     size_t at;
-    if (!has_shape(to, text, rule == BIC ? &bic : rule == IBAN ? &iban : &creditor, &at)) return at;
+    if (!has_shape(to, text, shape_of(rule), &at)) return at;
     if (text.length == 11) {
         fputs("NOTPROVIDED is no BIC. A message says Othr, Id and NOTPROVIDED in the place of BICFI; a list "
               "leaves the BIC empty.",

@@ -95,7 +95,8 @@ static const struct hint CDATA = {"A CDATA section stands there; the profile has
                                   "Write the text alone."};
 static const struct hint DOCTYPE = {"A DOCTYPE stands there; the profile has none.", "Take it out."};
 static const struct hint EMPTY_TAG = {"An empty-element tag stands there; the profile has none.",
-                                      "Write the opening tag, the content and the closing tag."};
+                                      "Write the opening tag, the content and the closing tag; or take the "
+                                      "element out, where it may be missing."};
 
 static const struct hint *hint_of_file(struct text file) {
     if (begins(file, "\xEF\xBB\xBF", 3)) return &MARKED;

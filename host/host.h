@@ -30,11 +30,14 @@ const struct words *words_of(uint64_t number);
 enum { BAD_LENGTH = 51, BAD_LETTER, BAD_SLASH, BAD_NUMBER, BAD_DATE, BAD_CODE, BAD_SHAPE, BAD_CHECK_DIGITS };
 /* Whether a number is one of these. */
 int is_flaw(uint64_t number);
+/* The refusal of an address for the parts that it has. */
+enum { BAD_ADDRESS = 59 };
 
-/* The rules of texts, and of the numbers in a day list. */
+/* The rules of texts, and of the numbers in a day list. A street and a line of an address keep NAME. */
 enum rule {
-    HOLDER, IDENTIFIER, NAME, REMITTANCE, COUNT, SUM, AMOUNT, DATE, TIME, IBAN, BIC, CREDITOR, METHOD, BOOKING,
-    SEPA, SCHEME, SEQUENCE, CHARGES, NOBANK, SCHEME_BYTE, SEQUENCE_BYTE, CENTS, RULES
+    HOLDER, IDENTIFIER, NAME, REMITTANCE, LETTERS_16, LETTERS_35, COUNTRY, COUNT, SUM, AMOUNT, DATE, TIME,
+    IBAN, BIC, CREDITOR, METHOD, BOOKING, SEPA, SCHEME, SEQUENCE, CHARGES, NOBANK, SCHEME_BYTE, SEQUENCE_BYTE,
+    CENTS, RULES
 };
 extern const char *const RULE[RULES];
 /* The codes of a scheme and of a sequence, in the order of their numbers; then null. */
@@ -120,6 +123,8 @@ struct totals {
     size_t batches;
     int unreadable; /* an amount is no number */
 };
+/* Whether a tag stands at a place, which is at most the length. */
+int tag_stands(struct text message, size_t at, const char *tag);
 /* How often a tag stands in these bytes. */
 size_t count_tags(struct text message, const char *tag);
 /* Adds up the transactions of a message, whatever it is. */
@@ -134,6 +139,14 @@ void explain_totals(FILE *to, struct text message, uint64_t number, size_t place
 void explain_declared(FILE *to, struct text message, const uint64_t *rows);
 /* What stands of a message that is cut off, and what is missing of what its header declares. */
 void explain_so_far(FILE *to, struct text message);
+
+/* ─── addresses.c: what an address has, and which kind it comes nearest to ─── */
+
+/* Refusal 59, of the address at this place, a debtor's or a creditor's: whose it is, what it has, and what to
+   mend. */
+void explain_address(FILE *to, struct text message, size_t place, int is_debtors);
+/* What PstlAdr may have, in a line. */
+void explain_address_form(FILE *to);
 
 /* ─── hints.c: what a refused file is, where it is not what its job reads ─── */
 

@@ -141,7 +141,9 @@ static void print_allowed(FILE *to, struct text message, const struct spot *spot
 
 /* ─── the refusals ─── */
 
-int lies_in_message(uint64_t number) { return (number >= 2 && number <= 9) || is_flaw(number); }
+int lies_in_message(uint64_t number) {
+    return (number >= 2 && number <= 9) || is_flaw(number) || number == BAD_ADDRESS;
+}
 
 static struct text without_white_end(struct text text) {
     while (text.length > 0 && text.bytes[text.length - 1] <= ' ') text.length--;
@@ -170,6 +172,7 @@ static void explain_form(FILE *to, struct text message, const struct spot *spot,
     print_marked(to, "There stands: ", message, place);
     explain_namespace(to, message, place);
     print_allowed(to, message, spot);
+    if (named(spot, 0, "PstlAdr")) explain_address_form(to);
 }
 
 static void explain_text(FILE *to, struct text message, const struct spot *spot, uint64_t number,
@@ -182,6 +185,8 @@ static void explain_text(FILE *to, struct text message, const struct spot *spot,
     fputc('\n', to);
     print_marked(to, "Text: ", text, at);
     fprintf(to, "Its rule: %s.\n", RULE[rule]);
+    if (text.length == 0 && named(spot, 1, "PstlAdr"))
+        fputs("It need not stand in an address: where there is nothing to fill in, take the element out.\n", to);
 }
 
 static void explain_refused(FILE *to, struct text message, uint64_t number, size_t place) {
@@ -201,7 +206,10 @@ static void explain_refused(FILE *to, struct text message, uint64_t number, size
         fprintf(to, "The message has %zu transactions.\n", count_tags(message, "<DrctDbtTxInf>"));
     if (is_flaw(number)) explain_text(to, message, &spot, number, place);
     if (number >= 6 && number <= 9) explain_totals(to, message, number, place);
-    fprintf(to, "To mend: %s\n", hint ? hint->mend : words->mend);
+    if (number == BAD_ADDRESS)
+        explain_address(to, message, place, within(&spot, "Dbtr"));
+    else
+        fprintf(to, "To mend: %s\n", hint ? hint->mend : words->mend);
 }
 
 /* ─── the answers ─── */

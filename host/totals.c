@@ -6,15 +6,15 @@
 
 /* ─── tags: a text has no `<`, so in a message of the form each tag is found by its bytes ─── */
 
-static int begins(struct text message, size_t at, const char *with) {
-    size_t n = strlen(with);
-    return message.length - at >= n && memcmp(message.bytes + at, with, n) == 0;
+int tag_stands(struct text message, size_t at, const char *tag) {
+    size_t n = strlen(tag);
+    return message.length - at >= n && memcmp(message.bytes + at, tag, n) == 0;
 }
 
 size_t count_tags(struct text message, const char *tag) {
     size_t n = 0;
     for (size_t at = 0; at < message.length; at++)
-        if (message.bytes[at] == '<' && begins(message, at, tag)) n++;
+        if (message.bytes[at] == '<' && tag_stands(message, at, tag)) n++;
     return n;
 }
 
@@ -47,7 +47,7 @@ void add_up(struct text message, struct totals *totals) {
     for (size_t at = 0; at < message.length; at++) {
         size_t tag = 0;
         if (message.bytes[at] != '<') continue;
-        while (tag < 5 && !begins(message, at, tags[tag])) tag++;
+        while (tag < 5 && !tag_stands(message, at, tags[tag])) tag++;
         if (tag == 5) continue;
         struct text text = {message.bytes + at + strlen(tags[tag]), 0};
         const uint8_t *end = memchr(text.bytes, '<', (size_t)(message.bytes + message.length - text.bytes));
@@ -76,8 +76,8 @@ int add_up_so_far(struct text message, struct totals *totals) {
     static const char begin[] = "<DrctDbtTxInf>", end[] = "</DrctDbtTxInf>";
     size_t first = message.length, whole = 0, begun = count_tags(message, begin), ended = 0;
     for (size_t at = 0; at < message.length; at++) {
-        if (first == message.length && begins(message, at, begin)) first = at;
-        if (!begins(message, at, end)) continue;
+        if (first == message.length && tag_stands(message, at, begin)) first = at;
+        if (!tag_stands(message, at, end)) continue;
         whole = at + strlen(end);
         ended++;
     }

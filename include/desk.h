@@ -16,7 +16,7 @@ extern "C" {
 #endif
 
 /* Of this header, of the library and of the command; CHANGELOG.md says what each version brought. */
-#define DESK_VERSION "2.1.0"
+#define DESK_VERSION "2.2.0"
 
 /* The limits of the profile. */
 #define DESK_BYTES 1048576      /* of a message, of a day list */
@@ -52,14 +52,20 @@ extern "C" {
     51 to 58, one stage: a text breaks its rule. The number says which of its tests it fails first. Plain texts: length, letters,
         slashes; an IBAN or a creditor identifier: shape, then check digits; every other text has one test.
         Place: the start of the first such text. Mend: that text.
-    51  A plain text (identifier, name, remittance) is empty, or has more bytes than its rule allows.
+    51  A plain text (identifier, name, remittance, part of an address but the country) is empty, or has more
+        bytes than its rule allows.
     52  It has a byte that is none of the letter set.
     53  An identifier begins or ends with a slash, or has two in a row.
     54  It is no number of the shape and range of its rule.
     55  It is no real day of the years 1900 to 2099 written as 2026-11-10, or no such day and time.
     56  It is none of the codes that may stand there.
-    57  It has not the shape of an IBAN, a BIC or a creditor identifier, or is NOTPROVIDED in the place of a BIC.
+    57  It has not the shape of an IBAN, a BIC, a creditor identifier or a country, or is NOTPROVIDED in the
+        place of a BIC.
     58  It has the shape of an IBAN or a creditor identifier, and its check digits do not fit.
+    59  The parts of an address do not go together. It is good where it has TwnNm and Ctry: structured without an
+        AdrLine, hybrid with one or two. Where the ReqdColltnDt of its batch is before 2026-11-15 it is also good
+        where it is unstructured: AdrLine or Ctry or both, and nothing else.
+        Place: the `<` of the first PstlAdr that is not good. Mend: add TwnNm and Ctry, or take PstlAdr out.
      6  The count that a batch declares differs from the number of its transactions.
         Place: the start of that NbOfTxs. Mend: find the transactions that were lost or are too many; correct the count only where
         it was declared wrong.

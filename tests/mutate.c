@@ -52,6 +52,7 @@ static const struct {
     PIECE("\xEF\xBB\xBF"), PIECE("\xC3\xAB"), PIECE("\xE2\x82\xAC"), PIECE("\xE2\x80\xAE"), PIECE("\xC3"),
     PIECE("\xF0\x9F\x92\xB6"), PIECE("\xFF"), PIECE("&apos;"), PIECE("<!--"), PIECE("NOTPROVIDED"),
     PIECE("<PmtInf>"), PIECE("</PmtInf>"), PIECE("<DrctDbtTxInf>"), PIECE("</DrctDbtTxInf>"),
+    PIECE("<PstlAdr>"), PIECE("</PstlAdr>"), PIECE("<TwnNm>"), PIECE("<Ctry>CH</Ctry>"), PIECE("2026-11-15"),
     PIECE("<InstdAmt Ccy=\"EUR\">99999999999999999999<"), PIECE("99999999999999999999"), PIECE("2026-02-30"),
     PIECE("AAAAAAAAAAAAAAAAAAAAAAAAAAAAAAAAAAAAAAAAAAAAAAAAAAAAAAAAAAAAAAAAAAAAAAAAAAAAAAAA"),
 };

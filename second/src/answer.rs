@@ -4,7 +4,7 @@ use std::fmt;
 
 /// The numbers of the check and of the writer, in the order of their stages.
 pub const CHECK_NUMBERS: &[u32] = &[
-    1, 2, 3, 4, 51, 52, 53, 54, 55, 56, 57, 58, 6, 7, 8, 9, 10, 11,
+    1, 2, 3, 4, 51, 52, 53, 54, 55, 56, 57, 58, 59, 6, 7, 8, 9, 10, 11,
 ];
 pub const WRITE_NUMBERS: &[u32] = &[21, 22, 23, 24, 25, 51, 52, 53, 54, 55, 56, 57, 58, 27, 28];
 

@@ -195,6 +195,11 @@ impl Builder {
                 let span = self.part(part);
                 self.repeated(span)
             }
+            Part::UpTo(most, part) => (0..*most).fold(Span::nothing(), |more, _| {
+                let span = self.part(part);
+                let with_more = self.then(span, more);
+                Builder::optional(with_more)
+            }),
             Part::Either(parts) => {
                 let spans: Vec<Span> = parts.iter().map(|part| self.part(part)).collect();
                 spans.into_iter().reduce(Builder::either).unwrap()

@@ -9,9 +9,10 @@
 //!   go into the output: a write;
 //! - `E`: the end.
 //!
-//! The stream begins with the cases of the table of refusals 51 to 58, one call for each, the same
-//! whatever the seed; then come the calls of the seed.
+//! The stream begins with the cases of the table of refusals 51 to 58 and of the table of postal
+//! addresses, one call for each, the same whatever the seed; then come the calls of the seed.
 
+use crate::address_cases::{self, summary, AddressCase};
 use crate::answer::Refusal;
 use crate::check::{Accepted, Checker, Tables};
 use crate::limit_cases::{LISTS, MESSAGES};
@@ -37,10 +38,11 @@ const TEXT_TABLES: Tables = Tables {
 };
 const TEXT_OUTPUT: usize = 4_000;
 
-/// Writes the calls of the table and so many of a seed.
+/// Writes the calls of the tables and so many of a seed.
 pub fn calls(seed: u64, count: u64, out: &mut dyn io::Write) -> io::Result<()> {
     let (messages, lists) = (text_cases::messages(), text_cases::lists());
-    let fixed = messages.len() + lists.len();
+    let addresses = address_cases::cases();
+    let fixed = messages.len() + addresses.len() + lists.len();
     let mut calls = Calls {
         checker: Checker::new(),
         random: Random::new(!seed, u64::MAX),
@@ -49,6 +51,9 @@ pub fn calls(seed: u64, count: u64, out: &mut dyn io::Write) -> io::Result<()> {
     };
     for case in &messages {
         calls.check_of_the_table(case)?;
+    }
+    for case in &addresses {
+        calls.check_of_addresses(case)?;
     }
     for case in &lists {
         calls.write_of_the_table(case)?;
@@ -77,6 +82,22 @@ impl Calls<'_> {
         match due {
             Ok(accepted) => self.accepted(&accepted, TEXT_TABLES),
             Err(refusal) => self.refused(refusal, TEXT_TABLES),
+        }
+    }
+
+    /// The check of a message with postal addresses.
+    fn check_of_addresses(&mut self, case: &AddressCase) -> io::Result<()> {
+        let message = case.message.as_bytes();
+        let found = self.checker.check(message, case.tables);
+        if summary(&found) != case.due {
+            let (name, due, found) = (&case.name, &case.due, summary(&found));
+            let difference = format!("{name}: the table says {due:?}, found {found:?}");
+            return Err(io::Error::other(difference));
+        }
+        self.input(message)?;
+        match found {
+            Ok(accepted) => self.accepted(&accepted, case.tables),
+            Err(refusal) => self.refused(refusal, case.tables),
         }
     }
 

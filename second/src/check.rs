@@ -1,6 +1,7 @@
 //! The check: its stages in order, the rows of an accepted message, and what the checking program
 //! prints.
 
+use crate::addresses::good_at;
 use crate::answer::{refuse, Refusal};
 use crate::automaton::Automaton;
 use crate::content::{Batch, Message, Section, Text};
@@ -62,6 +63,7 @@ impl Checker {
         let message = Message::read(bytes);
         limits(&message)?;
         texts(&message)?;
+        addresses(&message)?;
         let accepted = accepted(&message);
         batch_totals(&message, &accepted)?;
         message_totals(&message, &accepted)?;
@@ -87,6 +89,18 @@ fn texts(message: &Message) -> Result<(), Refusal> {
     let mut faults = texts.filter_map(|(rule, text)| Some((rule.fault(text.bytes)?, text.start)));
     match faults.next() {
         Some((fault, start)) => refuse(fault.number(), start),
+        None => Ok(()),
+    }
+}
+
+/// Stage 59: the first address whose elements are no good mix at the date of its own batch.
+fn addresses(message: &Message) -> Result<(), Refusal> {
+    let bad = message.addresses.iter().find(|address| {
+        let batch = &message.batches[address.batch].section;
+        !good_at(batch.required("ReqdColltnDt").bytes, &address.elements)
+    });
+    match bad {
+        Some(address) => refuse(59, address.place),
         None => Ok(()),
     }
 }

@@ -1,6 +1,8 @@
 //! The content of a message of the form: a tokenizer with a stack of open elements hands out the
-//! texts with their paths, and these are gathered into header, batches and transactions.
+//! texts with their paths, and these are gathered into header, batches, transactions and postal
+//! addresses.
 
+use crate::profile::ADDRESS;
 use crate::rules::{rule_of, Rule};
 use std::collections::BTreeMap;
 
@@ -42,10 +44,19 @@ pub struct Batch<'a> {
     pub transactions: Vec<Section<'a>>,
 }
 
+/// A postal address: the place of its `<`, the batch where it stands, from 0, and the names of
+/// the elements that it holds, in order.
+pub struct Address<'a> {
+    pub place: usize,
+    pub batch: usize,
+    pub elements: Vec<&'a str>,
+}
+
 #[derive(Default)]
 pub struct Message<'a> {
     pub header: Section<'a>,
     pub batches: Vec<Batch<'a>>,
+    pub addresses: Vec<Address<'a>>,
     pub texts: Vec<(Rule, Text<'a>)>,
 }
 
@@ -74,13 +85,21 @@ impl<'a> Message<'a> {
                 transactions: Vec::new(),
             }),
             ("DrctDbtTxInf", Some(batch)) => batch.transactions.push(section),
+            (ADDRESS, _) => self.addresses.push(Address {
+                place,
+                batch: self.batches.len() - 1,
+                elements: Vec::new(),
+            }),
             _ => {}
         }
     }
 
-    fn put(&mut self, path: &[&str], text: Text<'a>) {
+    fn put(&mut self, path: &[&'a str], text: Text<'a>) {
         let rule = rule_of(path).expect("the profile has a rule for each of its texts");
         self.texts.push((rule, text));
+        if let ([.., ADDRESS, element], Some(address)) = (path, self.addresses.last_mut()) {
+            return address.elements.push(element);
+        }
         let batch = self.batches.last_mut();
         let (section, names) = match (path, batch) {
             ([_, _, "PmtInf", "DrctDbtTxInf", names @ ..], Some(batch)) => {
@@ -100,7 +119,7 @@ enum Token<'a> {
 }
 
 /// The opened elements and the texts of a message of the form, in order. A closing tag that
-/// directly follows its opening tag's text ends a text.
+/// directly follows its opening tag's text ends a text, but not in an address, which may be empty.
 fn tokens(message: &[u8]) -> Vec<Token<'_>> {
     let mut tokens = Vec::new();
     let mut open: Vec<&str> = Vec::new();
@@ -120,7 +139,7 @@ fn tokens(message: &[u8]) -> Vec<Token<'_>> {
             let name = tag.split(' ').next().unwrap();
             tokens.push(Token::Opened(name, place));
             open.push(name);
-            text_start = Some(rest);
+            text_start = (name != ADDRESS).then_some(rest);
         }
     }
     tokens

@@ -1,7 +1,8 @@
 //! A message that is not rendered yet: its tree, what stands before and after it, and where white
 //! space stands.
 
-use crate::profile::DECLARATION;
+use crate::address_draft::Addresses;
+use crate::profile::{ADDRESS, DECLARATION};
 use crate::random::Random;
 use crate::rules::{rule_of, Rule};
 use crate::samples::Size;
@@ -56,6 +57,14 @@ pub fn any_presence(random: &mut Random) -> Presence {
     ])
 }
 
+/// One message in four may have addresses.
+pub fn any_addresses(random: &mut Random) -> Addresses {
+    match random.once_in(4) {
+        true => Addresses::Anywhere,
+        false => Addresses::Nowhere,
+    }
+}
+
 fn few_batches(random: &mut Random) -> Vec<usize> {
     let batches = random.pick(&[1, 1, 1, 2, 2, 3, 4]);
     (0..batches).map(|_| random.pick(&[1, 1, 2, 3])).collect()
@@ -63,10 +72,26 @@ fn few_batches(random: &mut Random) -> Vec<usize> {
 
 /// A good message of a few transactions.
 pub fn simple(random: &mut Random) -> Draft {
+    let addresses = any_addresses(random);
+    simple_with(addresses, random)
+}
+
+/// The same with at least one address.
+pub fn with_addresses(random: &mut Random) -> Draft {
+    loop {
+        let draft = simple_with(Addresses::Anywhere, random);
+        if !draft.root.paths(&|node| node.name == ADDRESS).is_empty() {
+            return draft;
+        }
+    }
+}
+
+fn simple_with(addresses: Addresses, random: &mut Random) -> Draft {
     let shape = Shape {
         batches: few_batches(random),
         size: random.pick(&[Size::Any, Size::Any, Size::Any, Size::Least, Size::Most]),
         presence: any_presence(random),
+        addresses,
     };
     let spacing = any_spacing(random);
     draft(&shape, spacing, random)
@@ -82,6 +107,7 @@ pub fn good_draft(most: usize, random: &mut Random) -> Draft {
         batches: (0..batches).map(|_| random.within(1..=room)).collect(),
         size: Size::Any,
         presence: any_presence(random),
+        addresses: any_addresses(random),
     };
     let spacing = any_spacing(random);
     draft(&shape, spacing, random)

@@ -5,7 +5,7 @@ use crate::profile::NOT_PROVIDED;
 use crate::random::Random;
 use crate::rules::{Rule, LETTERS};
 use crate::samples::DIGITS;
-use crate::shape_edges::{bics, creditor_ids, ibans};
+use crate::shape_edges::{bics, countries, creditor_ids, ibans};
 
 pub fn edges(rule: Rule, random: &mut Random) -> Vec<Vec<u8>> {
     match rule {
@@ -20,6 +20,8 @@ pub fn edges(rule: Rule, random: &mut Random) -> Vec<Vec<u8>> {
         Rule::Iban => ibans(random),
         Rule::Bic => bics(random),
         Rule::CreditorId => creditor_ids(random),
+        Rule::AddressText(longest) => address_texts(longest, random),
+        Rule::Country => countries(),
         Rule::OneOf(words) => codes(words),
     }
 }
@@ -123,6 +125,48 @@ fn plain(most: usize, random: &mut Random) -> Vec<Vec<u8>> {
             let place = random.below(length);
             edges.push(with_byte(&letters(length, random), place, byte));
         }
+    }
+    edges.extend(with_two_faults(most, random));
+    edges
+}
+
+/// Plain texts of a postal address: fewer edges, since a name has most of them too.
+fn address_texts(most: usize, random: &mut Random) -> Vec<Vec<u8>> {
+    let mut edges = texts(&[
+        "/",
+        "//",
+        "/A",
+        "A/",
+        "A//B",
+        " ",
+        "  A ",
+        "\t",
+        "A\n",
+        "\u{e9}",
+        "N\u{b0} 3",
+        "12_14",
+        "12;14",
+        "A@B",
+        "A#B",
+        "A\"B",
+        "A*B",
+        "O&apos;Neil",
+        "A&amp;B",
+        "]]>",
+        "A>B",
+        "/AdrLine>",
+        "\u{feff}A",
+        "A\u{a0}B",
+        "12-14 (bis)",
+    ]);
+    for length in [0, 1, 2, most - 1, most, most + 1, 2 * most, 255] {
+        edges.push(letters(length, random));
+    }
+    edges.extend([most, most + 1].map(|length| vec![b' '; length]));
+    for place in [0, most - 1] {
+        let text = letters(most, random);
+        edges.push(with_byte(&text, place, b'/'));
+        edges.push(with_byte(&text, place, 0xFC));
     }
     edges.extend(with_two_faults(most, random));
     edges

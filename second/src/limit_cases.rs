@@ -1,6 +1,8 @@
 //! Messages and lists at the limits: each limit kept and passed, the greatest messages, the longest
 //! texts. Their values depend on the seed, their kinds do not.
 
+use crate::address_draft::Addresses;
+use crate::address_faults::bad_mix;
 use crate::draft::{draft, Draft};
 use crate::list_draft::{self, different_terms, Terms};
 use crate::other_faults::bad_text;
@@ -40,6 +42,8 @@ pub const MESSAGES: &[fn(&mut Random) -> Message] = &[
     |random| great(wrong_batch_sum, random),
     |random| great(wrong_header_count, random),
     |random| great(wrong_header_sum, random),
+    |random| great(bad_mix, random),
+    |random| filled_up(longest_addresses(random), MESSAGE_LIMIT, random),
 ];
 
 fn message(batches: &[usize], size: Size, presence: Presence, random: &mut Random) -> Message {
@@ -47,6 +51,7 @@ fn message(batches: &[usize], size: Size, presence: Presence, random: &mut Rando
         batches: batches.to_vec(),
         size,
         presence,
+        addresses: Addresses::Nowhere,
     };
     draft(&shape, Spacing::Nowhere, random).rendered(random)
 }
@@ -72,12 +77,24 @@ fn longest_texts(random: &mut Random) -> Message {
     message(&[20; BATCH_LIMIT], Size::Most, Presence::Present, random)
 }
 
+/// The longest texts again, fewer, and every party with a full address.
+fn longest_addresses(random: &mut Random) -> Message {
+    let shape = Shape {
+        batches: vec![12; BATCH_LIMIT],
+        size: Size::Most,
+        presence: Presence::Present,
+        addresses: Addresses::Everywhere,
+    };
+    draft(&shape, Spacing::Nowhere, random).rendered(random)
+}
+
 /// A message of about half the greatest length, with line ends and margins.
 fn spaced(random: &mut Random) -> Message {
     let shape = Shape {
         batches: shared(400, 20),
         size: Size::Any,
         presence: Presence::Mixed,
+        addresses: Addresses::Anywhere,
     };
     draft(&shape, Spacing::Lines("\r\n"), random).rendered(random)
 }
@@ -94,6 +111,7 @@ fn great(fault: fn(&mut Draft, &mut Random), random: &mut Random) -> Message {
         batches: shared(TRANSACTION_LIMIT, random.within(1..=BATCH_LIMIT)),
         size: Size::Least,
         presence: Presence::Mixed,
+        addresses: Addresses::Nowhere,
     };
     let mut draft = draft(&shape, Spacing::Nowhere, random);
     fault(&mut draft, random);

@@ -1,5 +1,11 @@
 //! The second program of the payments desk: its command line.
 
+mod address_cases;
+mod address_draft;
+mod address_faults;
+mod address_forms;
+mod address_table;
+mod addresses;
 mod answer;
 mod automaton;
 mod bundle;
@@ -24,6 +30,7 @@ mod rules;
 mod samples;
 mod selftest;
 mod shape_edges;
+mod test_addresses;
 mod test_bundle;
 mod test_cases;
 mod test_faults;

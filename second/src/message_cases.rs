@@ -1,14 +1,19 @@
 //! Messages for comparison: good ones of every shape, and ones with faults in the tree, in the
-//! texts, in the totals and in the bytes. Text edges and tree faults are taken in turn, so that a
-//! long enough row of cases has them all.
+//! texts, in the addresses, in the totals and in the bytes. Text edges and tree faults are taken in
+//! turn, so that a long enough row of cases has them all.
 
+use crate::address_draft::Addresses;
+use crate::address_faults::{bad_mix, ADDRESS_FAULTS};
 use crate::byte_faults::BYTE_FAULTS;
 use crate::draft::{
-    any_presence, any_spacing, draft, good_draft, nodes_of, simple, texts_of, Draft,
+    any_addresses, any_presence, any_spacing, draft, good_draft, nodes_of, simple, texts_of,
+    with_addresses, Draft,
 };
 use crate::edges::edge_in_turn;
 use crate::other_faults::{bad_text, some_tree_fault, OTHER_FAULTS};
-use crate::profile::{paths, BATCH_LIMIT, MESSAGE_LIMIT, TRANSACTION_LIMIT, WHITE_SPACE};
+use crate::profile::{
+    closing, opening, paths, ADDRESS, BATCH_LIMIT, MESSAGE_LIMIT, TRANSACTION_LIMIT, WHITE_SPACE,
+};
 use crate::random::{turn, Random};
 use crate::rules::{rules_of_the_profile, Rule};
 use crate::samples::Size;
@@ -24,11 +29,42 @@ type DraftFault = fn(&mut Draft, &mut Random);
 const STAGE_FAULTS: &[DraftFault] = &[
     some_tree_fault,
     bad_text,
+    bad_mix,
     wrong_batch_count,
     wrong_batch_sum,
     wrong_header_count,
     wrong_header_sum,
 ];
+
+/// What edges and tree faults are about: what stands in addresses, or all else.
+#[derive(Clone, Copy, PartialEq)]
+enum About {
+    Addresses,
+    AllElse,
+}
+
+impl About {
+    fn draft(self, random: &mut Random) -> Draft {
+        match self {
+            About::Addresses => with_addresses(random),
+            About::AllElse => simple(random),
+        }
+    }
+
+    fn rules(self) -> Vec<Rule> {
+        let mut rules = rules_of_the_profile();
+        rules.retain(|rule| rule.is_of_addresses() == (self == About::Addresses));
+        rules
+    }
+
+    /// The elements of the tree, but for its root.
+    fn elements(self) -> Vec<Vec<String>> {
+        let mut elements = paths().split_off(1);
+        let in_address = |path: &[String]| path.iter().any(|name| name == ADDRESS);
+        elements.retain(|path| in_address(path) == (self == About::Addresses));
+        elements
+    }
+}
 
 /// The message of a case, of at most so many bytes.
 pub fn message(seed: u64, case: u64, most: usize) -> Vec<u8> {
@@ -44,8 +80,9 @@ pub fn message(seed: u64, case: u64, most: usize) -> Vec<u8> {
     message
 }
 
-/// Thirty cases are a round: 14 of them have a text edge, eight a tree fault, two a pair of faults,
-/// in turn.
+/// Thirty-six cases are a round: 14 of them have a text edge, eight a tree fault, two a pair of
+/// faults, in turn. The last six have addresses: two have an edge of a text in them, two a tree
+/// fault in them, two a fault of their own, in turn.
 fn any_message(seed: u64, case: u64, most: usize, random: &mut Random) -> Vec<u8> {
     if most > MESSAGE_LIMIT && random.once_in(12) {
         return about_the_limit(random);
@@ -53,16 +90,28 @@ fn any_message(seed: u64, case: u64, most: usize, random: &mut Random) -> Vec<u8
     if most >= 700_000 && random.once_in(10) {
         return many_transactions(random);
     }
-    let (round, place) = (case / 30, case % 30);
+    let (round, place) = (case / 36, case % 36);
     match place {
-        0..=13 => with_edge_in_turn(turn(seed, 14 * round + place), random),
-        14..=21 => with_tree_fault_in_turn(turn(seed, 8 * round + place - 14), random),
+        0..=13 => with_edge_in_turn(About::AllElse, turn(seed, 14 * round + place), random),
+        14..=21 => {
+            let turn = turn(seed, 8 * round + place - 14);
+            with_tree_fault_in_turn(About::AllElse, turn, random)
+        }
         22..=23 => with_draft_fault(TOTAL_FAULTS, random),
         24 => with_draft_fault(OTHER_FAULTS, random),
         25 => with_byte_fault(random),
         26..=27 => with_two_faults_in_turn(turn(seed, 2 * round + place - 26), random),
         28 => good_message(most, random),
-        _ => of_unusual_length(most, random),
+        29 => of_unusual_length(most, random),
+        30..=31 => {
+            let turn = turn(seed, 2 * round + place - 30);
+            with_edge_in_turn(About::Addresses, turn, random)
+        }
+        32..=33 => {
+            let turn = turn(seed, 2 * round + place - 32);
+            with_tree_fault_in_turn(About::Addresses, turn, random)
+        }
+        _ => with_address_fault_in_turn(turn(seed, 2 * round + place - 34), random),
     }
 }
 
@@ -100,6 +149,7 @@ fn with_two_faults_in_turn(turn: usize, random: &mut Random) -> Vec<u8> {
         batches: (0..batches).map(|_| random.within(1..=2)).collect(),
         size: Size::Any,
         presence: any_presence(random),
+        addresses: any_addresses(random),
     };
     let spacing = any_spacing(random);
     let mut draft = draft(&shape, spacing, random);
@@ -110,11 +160,11 @@ fn with_two_faults_in_turn(turn: usize, random: &mut Random) -> Vec<u8> {
 }
 
 /// Every edge in turn, at some text of its rule.
-fn with_edge_in_turn(turn: usize, random: &mut Random) -> Vec<u8> {
-    let (rule, text) = edge_in_turn(&rules_of_the_profile(), turn, random);
-    let mut draft = simple(random);
+fn with_edge_in_turn(about: About, turn: usize, random: &mut Random) -> Vec<u8> {
+    let (rule, text) = edge_in_turn(&about.rules(), turn, random);
+    let mut draft = about.draft(random);
     while texts_of(&draft, rule).is_empty() {
-        draft = simple(random);
+        draft = about.draft(random);
     }
     let path = random.pick(&texts_of(&draft, rule));
     draft.root.descendant_mut(&path).set_text(text);
@@ -125,17 +175,40 @@ fn with_edge_in_turn(turn: usize, random: &mut Random) -> Vec<u8> {
 }
 
 /// Every fault in turn at every element of the tree.
-fn with_tree_fault_in_turn(turn: usize, random: &mut Random) -> Vec<u8> {
+fn with_tree_fault_in_turn(about: About, turn: usize, random: &mut Random) -> Vec<u8> {
     let fault = TREE_FAULTS[turn % TREE_FAULTS.len()];
-    let elements = &paths()[1..];
+    let elements = about.elements();
     let element = &elements[turn / TREE_FAULTS.len() % elements.len()];
-    let mut draft = simple(random);
+    let mut draft = about.draft(random);
     while nodes_of(&draft, element).is_empty() {
-        draft = simple(random);
+        draft = about.draft(random);
     }
     let path = random.pick(&nodes_of(&draft, element));
     apply(fault, &mut draft, &path, random);
     draft.rendered(random)
+}
+
+/// Every fault of addresses in turn, and a message that ends inside one.
+fn with_address_fault_in_turn(turn: usize, random: &mut Random) -> Vec<u8> {
+    let mut draft = with_addresses(random);
+    match ADDRESS_FAULTS.get(turn % (ADDRESS_FAULTS.len() + 1)) {
+        Some(fault) => fault(&mut draft, random),
+        None => return cut_in_an_address(draft.rendered(random), random),
+    }
+    draft.rendered(random)
+}
+
+fn cut_in_an_address(mut bytes: Vec<u8>, random: &mut Random) -> Vec<u8> {
+    let places = |tag: String| -> Vec<usize> {
+        let windows = bytes.windows(tag.len()).enumerate();
+        let found = windows.filter(|(_, window)| *window == tag.as_bytes());
+        found.map(|(place, _)| place).collect()
+    };
+    let (starts, ends) = (places(opening(ADDRESS)), places(closing(ADDRESS)));
+    let index = random.below(starts.len());
+    let most = ends[index] + closing(ADDRESS).len();
+    bytes.truncate(random.within(starts[index]..=most));
+    bytes
 }
 
 /// About 64 batches, mostly with a fault of another stage.
@@ -146,6 +219,7 @@ fn many_batches(random: &mut Random) -> Vec<u8> {
         batches: vec![1; random.pick(&[limit, limit, about])],
         size: Size::Least,
         presence: any_presence(random),
+        addresses: Addresses::Nowhere,
     };
     crowded(&shape, random)
 }
@@ -160,6 +234,7 @@ fn many_transactions(random: &mut Random) -> Vec<u8> {
         batches: counts,
         size: Size::Least,
         presence: random.pick(&[Presence::Absent, Presence::Absent, Presence::Present]),
+        addresses: Addresses::Nowhere,
     };
     crowded(&shape, random)
 }
@@ -193,6 +268,7 @@ fn large(most: usize, random: &mut Random) -> Vec<u8> {
         batches: vec![transactions],
         size: Size::Any,
         presence: any_presence(random),
+        addresses: any_addresses(random),
     };
     draft(&shape, Spacing::Nowhere, random).rendered(random)
 }

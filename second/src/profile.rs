@@ -21,23 +21,30 @@ pub const SCHEMES: &[&str] = &["CORE", "B2B"];
 pub const SEQUENCES: &[&str] = &["FRST", "RCUR", "OOFF", "FNAL"];
 pub const NOT_PROVIDED: &str = "NOTPROVIDED";
 
-/// `?` may be missing, `|` one of the two, `+` one or more. A name with a line of its own holds
-/// that line; a name in small letters stands for its line.
-const TREE: [(&str, &str); 6] = [
+/// The name of a postal address.
+pub const ADDRESS: &str = "PstlAdr";
+
+/// `?` may be missing, `|` one of the two, `+` one or more, `{2}` up to two. A name with a line of
+/// its own holds that line; a name in small letters stands for its line.
+const TREE: [(&str, &str); 7] = [
     ("Document", "CstmrDrctDbtInitn"),
     ("CstmrDrctDbtInitn", "GrpHdr, PmtInf+"),
     ("GrpHdr", "MsgId, CreDtTm, NbOfTxs, CtrlSum, InitgPty(Nm)"),
     (
         "PmtInf",
         "PmtInfId, PmtMtd, BtchBookg?, NbOfTxs?, CtrlSum?, \
-         PmtTpInf(SvcLvl(Cd), LclInstrm(Cd), SeqTp), ReqdColltnDt, Cdtr(Nm), \
+         PmtTpInf(SvcLvl(Cd), LclInstrm(Cd), SeqTp), ReqdColltnDt, Cdtr(Nm, PstlAdr?), \
          CdtrAcct(Id(IBAN)), CdtrAgt(bank), ChrgBr, \
          CdtrSchmeId(Id(PrvtId(Othr(Id, SchmeNm(Prtry))))), DrctDbtTxInf+",
     ),
     (
         "DrctDbtTxInf",
         "PmtId(InstrId?, EndToEndId), InstdAmt, DrctDbtTx(MndtRltdInf(MndtId, DtOfSgntr)), \
-         DbtrAgt(bank), Dbtr(Nm), DbtrAcct(Id(IBAN)), RmtInf(Ustrd)?",
+         DbtrAgt(bank), Dbtr(Nm, PstlAdr?), DbtrAcct(Id(IBAN)), RmtInf(Ustrd)?",
+    ),
+    (
+        "PstlAdr",
+        "StrtNm?, BldgNb?, PstCd?, TwnNm?, Ctry?, AdrLine{2}",
     ),
     ("bank", "FinInstnId(BICFI | Othr(Id))"),
 ];
@@ -48,6 +55,7 @@ pub enum Part {
     Holder(String, Vec<Part>),
     Optional(Box<Part>),
     Repeated(Box<Part>),
+    UpTo(usize, Box<Part>),
     Either(Vec<Part>),
 }
 
@@ -82,7 +90,7 @@ impl Part {
         };
         match self {
             Part::Text(name) => vec![[before, from_ref(name)].concat()],
-            Part::Optional(part) | Part::Repeated(part) => part.paths(before),
+            Part::Optional(part) | Part::Repeated(part) | Part::UpTo(_, part) => part.paths(before),
             Part::Either(parts) => all(parts, before),
             Part::Holder(name, parts) => {
                 let path = [before, from_ref(name)].concat();
@@ -148,9 +156,20 @@ impl<'a> Notation<'a> {
             Part::Optional(Box::new(part))
         } else if self.eat('+') {
             Part::Repeated(Box::new(part))
+        } else if self.eat('{') {
+            let most = self.number();
+            self.eat('}');
+            Part::UpTo(most, Box::new(part))
         } else {
             part
         }
+    }
+
+    /// A number of one digit.
+    fn number(&mut self) -> usize {
+        let (digit, rest) = self.rest.split_at(1);
+        self.rest = rest;
+        digit.parse().expect("the notation has a digit here")
     }
 
     fn element(&mut self) -> Part {

@@ -16,6 +16,9 @@ pub enum Rule {
     Iban,
     Bic,
     CreditorId,
+    /// A plain text of a postal address, of at most so many bytes.
+    AddressText(usize),
+    Country,
     OneOf(&'static [&'static str]),
 }
 
@@ -61,6 +64,10 @@ pub fn rule_of(path: &[&str]) -> Option<Rule> {
         [.., "IBAN"] => Rule::Iban,
         [.., "BICFI"] => Rule::Bic,
         [.., "PrvtId", "Othr", "Id"] => Rule::CreditorId,
+        [.., "StrtNm" | "AdrLine"] => Rule::AddressText(70),
+        [.., "BldgNb" | "PstCd"] => Rule::AddressText(16),
+        [.., "TwnNm"] => Rule::AddressText(35),
+        [.., "Ctry"] => Rule::Country,
         [.., "FinInstnId", "Othr", "Id"] => Rule::OneOf(&[NOT_PROVIDED]),
         [.., "PmtMtd"] => Rule::OneOf(&["DD"]),
         [.., "BtchBookg"] => Rule::OneOf(&["true", "false"]),
@@ -85,6 +92,11 @@ pub fn rules_of_the_profile() -> Vec<Rule> {
 }
 
 impl Rule {
+    /// Whether the texts of this rule stand in postal addresses.
+    pub fn is_of_addresses(self) -> bool {
+        matches!(self, Rule::AddressText(_) | Rule::Country)
+    }
+
     pub fn allows(self, text: &[u8]) -> bool {
         self.fault(text).is_none()
     }
@@ -105,6 +117,8 @@ impl Rule {
             Rule::Iban => iban(text),
             Rule::Bic => Fault::Shape.unless(bic(text)),
             Rule::CreditorId => creditor_id(text),
+            Rule::AddressText(longest) => plain(text, longest),
+            Rule::Country => Fault::Shape.unless(fits(text, "AA")),
             Rule::OneOf(words) => Fault::Code.unless(words.iter().any(|w| w.as_bytes() == text)),
         }
     }

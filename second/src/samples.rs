@@ -30,6 +30,8 @@ pub fn good(rule: Rule, size: Size, random: &mut Random) -> Vec<u8> {
         Rule::Iban => good_iban(length(30, size, random), random),
         Rule::Bic => good_bic(size, random),
         Rule::CreditorId => good_creditor_id(length(28, size, random), random),
+        Rule::AddressText(longest) => letters(length(longest, size, random), random),
+        Rule::Country => random.bytes(CAPITALS, 2),
         Rule::OneOf(words) => random.pick(words).as_bytes().to_vec(),
     }
 }

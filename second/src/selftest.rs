@@ -1,6 +1,9 @@
 //! The self-test: counts what passes and what fails, and calls the tests of each part.
 
-use crate::{test_bundle, test_cases, test_faults, test_form, test_lists, test_texts, test_totals};
+use crate::{
+    test_addresses, test_bundle, test_cases, test_faults, test_form, test_lists, test_texts,
+    test_totals,
+};
 use std::fmt::Debug;
 
 #[derive(Default)]
@@ -34,6 +37,7 @@ pub fn run() -> bool {
     test_form::run(&mut bench);
     test_texts::run(&mut bench);
     test_faults::run(&mut bench);
+    test_addresses::run(&mut bench);
     test_totals::run(&mut bench);
     test_lists::run(&mut bench);
     test_bundle::run(&mut bench);

@@ -1,4 +1,5 @@
-//! Edges of the texts that have a shape, and of check digits: IBANs, BICs and creditor identifiers.
+//! Edges of the texts that have a shape, and of check digits: IBANs, BICs, creditor identifiers and
+//! countries.
 
 use crate::edges::{around, each_place, texts, with_byte};
 use crate::profile::NOT_PROVIDED;
@@ -125,6 +126,16 @@ pub fn creditor_ids(random: &mut Random) -> Vec<Vec<u8>> {
     }
     edges.extend(each_place(b"BE91ZZZ1A", b"0a@"));
     edges.extend(mistyped(&good_creditor_id(6, random)));
+    edges
+}
+
+pub fn countries() -> Vec<Vec<u8>> {
+    let mut edges = texts(&[
+        "AA", "AZ", "ZZ", "BE", "CH", "FR", "GB", "UK", "XX", "", " ", "  ", "F", "FRA", "CHE",
+        "FRFR", "756", "fr", "Fr", "fR", "F1", "1F", "12", "F ", " F", " FR", "FR ", "FR\n",
+        "\nFR", "F-R", "F/", "FR-", "F\0", "\u{c9}", "F&",
+    ]);
+    edges.extend(each_place(b"AZ", b"@[`{/:"));
     edges
 }
 

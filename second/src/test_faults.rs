@@ -46,7 +46,7 @@ fn text_paths() -> Vec<String> {
 
 fn cases_of_the_table(bench: &mut Bench) {
     let (messages, lists) = (messages(), lists());
-    bench.same("cases", (messages.len(), lists.len()), (408, 658));
+    bench.same("cases", (messages.len(), lists.len()), (578, 658));
     let checker = Checker::new();
     for case in messages {
         let found = checker.check(&case.input, Tables::LONG_ENOUGH);

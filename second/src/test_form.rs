@@ -14,9 +14,7 @@ pub fn run(bench: &mut Bench) {
     children(bench, &tester);
     white_space(bench, &tester);
     limits(bench, &tester);
-    every_beginning(bench, &tester);
-    every_byte_changed(bench, &tester);
-    every_blank_inserted(bench, &tester);
+    every_place(bench, &tester, MESSAGE);
 }
 
 /// A checker with tables that are long enough, and its answer as printed, without the last LF.
@@ -67,7 +65,7 @@ fn lengths(bench: &mut Bench, tester: &Tester) {
 }
 
 fn beginnings(bench: &mut Bench, tester: &Tester) {
-    bench.same("elements of the tree", paths().len(), 61);
+    bench.same("elements of the tree", paths().len(), 75);
     bench.same("the message itself", MESSAGE.len(), 1743);
     bench.same("accepted", tester.answer(MESSAGE), GOOD);
     bench.same("★1", tester.answer(""), "NO 2 0");
@@ -221,71 +219,81 @@ fn limits(bench: &mut Bench, tester: &Tester) {
     bench.same("3 before 4", tester.answer(crowded), due);
 }
 
-fn every_beginning(bench: &mut Bench, tester: &Tester) {
-    let wrong = (0..MESSAGE.len())
-        .find(|&length| tester.answer(&MESSAGE[..length]) != format!("NO 2 {length}"));
+/// Every beginning of a message that is answered with GOOD, every byte of it changed, and a blank
+/// inserted everywhere. The message has no white space, no empty text and no empty element.
+pub fn every_place(bench: &mut Bench, tester: &Tester, message: &str) {
+    every_beginning(bench, tester, message);
+    every_byte_changed(bench, tester, message);
+    every_blank_inserted(bench, tester, message);
+}
+
+fn every_beginning(bench: &mut Bench, tester: &Tester, message: &str) {
+    let wrong = (0..message.len())
+        .find(|&length| tester.answer(&message[..length]) != format!("NO 2 {length}"));
     bench.same("every beginning", wrong, None);
 }
 
-/// The start of the text that a byte of the message is in: the message has no white space and no
-/// empty text.
-fn text_around(place: usize) -> Option<usize> {
-    let opened = MESSAGE[..place].rfind('>')?;
-    let in_tag = MESSAGE.as_bytes()[opened..=place].contains(&b'<');
+/// The start of the text that a byte of the message is in.
+fn text_around(message: &str, place: usize) -> Option<usize> {
+    let opened = message[..place].rfind('>')?;
+    let in_tag = message.as_bytes()[opened..=place].contains(&b'<');
     (!in_tag).then_some(opened + 1)
 }
 
-/// The number of a text with a byte outside the letter set, by the element that it starts in.
-fn number_of_strange_text(start: usize) -> u32 {
-    let tags = &MESSAGE[..start];
+/// The number of a text with a byte outside the letter set, by the tags before it.
+fn number_of_strange_text(tags: &str) -> u32 {
     let opening = &tags[tags.rfind('<').unwrap()..];
     match opening {
         "<MsgId>" | "<PmtInfId>" | "<EndToEndId>" | "<MndtId>" | "<Nm>" | "<Ustrd>" => 52,
+        "<StrtNm>" | "<BldgNb>" | "<PstCd>" | "<TwnNm>" | "<AdrLine>" => 52,
         "<NbOfTxs>" | "<CtrlSum>" | r#"<InstdAmt Ccy="EUR">"# => 54,
         "<CreDtTm>" | "<ReqdColltnDt>" | "<DtOfSgntr>" => 55,
         "<PmtMtd>" | "<BtchBookg>" | "<Cd>" | "<SeqTp>" | "<ChrgBr>" | "<Prtry>" => 56,
         "<Id>" if tags.ends_with("<FinInstnId><Othr><Id>") => 56,
         "<Id>" if tags.ends_with("<PrvtId><Othr><Id>") => 57,
-        "<IBAN>" | "<BICFI>" => 57,
+        "<IBAN>" | "<BICFI>" | "<Ctry>" => 57,
         _ => unreachable!("the message has no other texts"),
     }
 }
 
-fn every_byte_changed(bench: &mut Bench, tester: &Tester) {
-    let wrong = (0..MESSAGE.len()).find(|&place| {
-        let mut message = MESSAGE.as_bytes().to_vec();
-        message[place] = 1;
-        let due = match text_around(place) {
-            Some(start) => format!("NO {} {start}", number_of_strange_text(start)),
-            None if ends_text(place) => format!("NO 2 {}", place_past_text(place)),
+fn every_byte_changed(bench: &mut Bench, tester: &Tester, message: &str) {
+    let wrong = (0..message.len()).find(|&place| {
+        let mut changed = message.as_bytes().to_vec();
+        changed[place] = 1;
+        let due = match text_around(message, place) {
+            Some(start) => format!("NO {} {start}", number_of_strange_text(&message[..start])),
+            None if ends_text(message, place) => {
+                format!("NO 2 {}", place_past_text(message, place))
+            }
             None => format!("NO 2 {place}"),
         };
-        tester.answer(message) != due
+        tester.answer(changed) != due
     });
     bench.same("every byte changed", wrong, None);
 }
 
-fn ends_text(place: usize) -> bool {
-    MESSAGE[place..].starts_with('<') && place > 0 && text_around(place - 1).is_some()
+fn ends_text(message: &str, place: usize) -> bool {
+    message[place..].starts_with('<') && place > 0 && text_around(message, place - 1).is_some()
 }
 
 /// When the `<` that ends a text is changed, the text goes on to the next `<`, and what follows
 /// there should be the closing tag.
-fn place_past_text(place: usize) -> usize {
-    let next = place + 1 + MESSAGE[place + 1..].find('<').unwrap();
-    let due_and_found = MESSAGE[place..].bytes().zip(MESSAGE[next..].bytes());
+fn place_past_text(message: &str, place: usize) -> usize {
+    let next = place + 1 + message[place + 1..].find('<').unwrap();
+    let due_and_found = message[place..].bytes().zip(message[next..].bytes());
     next + due_and_found
         .take_while(|(due, found)| due == found)
         .count()
 }
 
-fn every_blank_inserted(bench: &mut Bench, tester: &Tester) {
-    let wrong = (1..MESSAGE.len()).find(|&place| {
-        let (before, after) = MESSAGE.split_at(place);
+fn every_blank_inserted(bench: &mut Bench, tester: &Tester, message: &str) {
+    let wrong = (1..message.len()).find(|&place| {
+        let (before, after) = message.split_at(place);
         let answer = tester.answer(format!("{before} {after}"));
+        let in_text = text_around(message, place - 1).is_some();
         let due = match (before.ends_with('>'), after.as_bytes()[0]) {
             (true, b'<') => GOOD.to_string(),
-            _ if text_around(place - 1).is_some() || before.ends_with('>') => return false,
+            _ if in_text || before.ends_with('>') => return false,
             (_, b' ') => format!("NO 2 {}", place + 1),
             _ => format!("NO 2 {place}"),
         };

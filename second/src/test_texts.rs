@@ -16,6 +16,7 @@ pub fn run(bench: &mut Bench) {
     every_day(bench);
     codes(bench);
     identifications(bench);
+    countries(bench);
     creditor_ids(bench);
     misread(bench);
     known_remainders(bench);
@@ -66,7 +67,9 @@ fn letter_set(bench: &mut Bench) {
 }
 
 fn plain_texts(bench: &mut Bench) {
-    for (rule, longest) in [(Rule::Id, 35), (Rule::Name, 70), (Rule::Remittance, 140)] {
+    let of_addresses = [70, 16, 35].map(|longest| (Rule::AddressText(longest), longest));
+    let others = [(Rule::Id, 35), (Rule::Name, 70), (Rule::Remittance, 140)];
+    for (rule, longest) in others.into_iter().chain(of_addresses) {
         let texts = [1, longest].map(|length| "a".repeat(length));
         let long = "a".repeat(longest + 1);
         let blanks = " ".repeat(longest);
@@ -77,6 +80,7 @@ fn plain_texts(bench: &mut Bench) {
     judge(bench, Rule::Id, &["A/ /B", " /A", "A/ "], &slashes);
     judge(bench, Rule::Name, &slashes, &[]);
     judge(bench, Rule::Remittance, &slashes, &[]);
+    judge(bench, Rule::AddressText(16), &slashes, &[]);
 }
 
 fn numbers(bench: &mut Bench) {
@@ -230,6 +234,20 @@ fn identifications(bench: &mut Bench) {
         "BANKGB2LXX-",
     ];
     judge(bench, Rule::Bic, &good, &bad);
+}
+
+/// Every text of two bytes, and some of other lengths.
+fn countries(bench: &mut Bench) {
+    let good = ["AA", "AZ", "ZA", "ZZ", "CH", "GB"];
+    let bad = ["", "C", "CHE", "CHCH", " CH", "CH ", "\u{c9}", "C\u{c9}"];
+    judge(bench, Rule::Country, &good, &bad);
+    let pairs = (0..=255).flat_map(|a: u8| (0..=255).map(move |b: u8| [a, b]));
+    let allowed: Vec<[u8; 2]> = pairs.filter(|pair| Rule::Country.allows(pair)).collect();
+    let capitals = allowed
+        .iter()
+        .flatten()
+        .all(|byte| (65..=90).contains(byte));
+    bench.same("countries", (allowed.len(), capitals), (26 * 26, true));
 }
 
 fn creditor_ids(bench: &mut Bench) {

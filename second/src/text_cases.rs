@@ -2,10 +2,12 @@
 //! such as which of two faults is refused; each with the refusal that is due. They are the same
 //! whatever the seed. The self-test judges them, and the calls begin with them.
 
+use crate::address_draft::Addresses;
 use crate::answer::Refusal;
 use crate::daylist::DayList;
 use crate::draft::{draft, nodes_of};
 use crate::frames;
+use crate::profile::ADDRESS;
 use crate::random::Random;
 use crate::samples::Size;
 use crate::text_table::{FIELDS, SPOILED, TEXTS, VALUES};
@@ -114,6 +116,10 @@ fn around(path: &str) -> (Vec<u8>, Vec<u8>) {
         batches: vec![2, 1],
         size: Size::Any,
         presence: Presence::Present,
+        addresses: match path.contains(ADDRESS) {
+            true => Addresses::Everywhere,
+            false => Addresses::Nowhere,
+        },
     };
     let random = &mut Random::new(51, 58);
     loop {

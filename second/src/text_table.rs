@@ -147,6 +147,71 @@ const CREDITOR_ID: Kind = Kind {
     ],
 };
 
+const STREET: Kind = Kind {
+    good: "Rue de l'Eglise",
+    longest: ("a", 70),
+    numbers: PLAIN,
+    own: &[
+        ("N\u{b0} 4", 52),
+        ("Rue\nBasse", 52),
+        ("Rue de l'Eglise_Saint-Pierre-en-Bas", 52),
+        ("/", 0),
+        ("A", 0),
+    ],
+};
+const BUILDING: Kind = Kind {
+    good: "12 bis",
+    longest: ("1", 16),
+    numbers: PLAIN,
+    own: &[("12;14", 52), ("12_14", 52), (" ", 0), ("1", 0)],
+};
+const POST_CODE: Kind = Kind {
+    good: "SW1A 2AA",
+    longest: ("9", 16),
+    numbers: PLAIN,
+    own: &[("1207*", 52), ("1207\t", 52), ("//", 0), ("1", 0)],
+};
+const TOWN: Kind = Kind {
+    good: "Chatel-St-Denis",
+    longest: ("a", 35),
+    numbers: PLAIN,
+    own: &[
+        ("Gen\u{e8}ve", 52),
+        ("Bern@", 52),
+        ("Villars_sur_Ollon_et_Gryon", 52),
+        ("/", 0),
+        ("A", 0),
+    ],
+};
+const LINE: Kind = Kind {
+    good: "c/o Leak Labs Bureau",
+    longest: ("a", 70),
+    numbers: PLAIN,
+    own: &[("P&amp;O", 52), ("A\r\nB", 52), (" ", 0), ("A", 0)],
+};
+const COUNTRY: Kind = Kind {
+    good: "CH",
+    longest: ("GB", 1),
+    numbers: SHAPE,
+    own: &[
+        ("C", 57),
+        ("ch", 57),
+        ("Ch", 57),
+        ("cH", 57),
+        ("C1", 57),
+        ("1C", 57),
+        ("41", 57),
+        ("CHE", 57),
+        ("756", 57),
+        ("C ", 57),
+        (" CH", 57),
+        ("A[", 57),
+        ("@Z", 57),
+        ("AZ", 0),
+        ("ZA", 0),
+    ],
+};
+
 const fn code(good: &'static str, own: &'static [(&'static str, u32)]) -> Kind {
     Kind {
         good,
@@ -162,7 +227,7 @@ const NO_BANK: Kind = code(
 );
 
 /// Every text of the tree, by the names that lead to it.
-pub const TEXTS: [(&str, Kind); 31] = [
+pub const TEXTS: [(&str, Kind); 43] = [
     ("GrpHdr MsgId", ID),
     ("GrpHdr CreDtTm", TIME),
     ("GrpHdr NbOfTxs", COUNT),
@@ -190,6 +255,12 @@ pub const TEXTS: [(&str, Kind); 31] = [
     ),
     ("PmtInf ReqdColltnDt", DAY),
     ("PmtInf Cdtr Nm", NAME),
+    ("PmtInf Cdtr PstlAdr StrtNm", STREET),
+    ("PmtInf Cdtr PstlAdr BldgNb", BUILDING),
+    ("PmtInf Cdtr PstlAdr PstCd", POST_CODE),
+    ("PmtInf Cdtr PstlAdr TwnNm", TOWN),
+    ("PmtInf Cdtr PstlAdr Ctry", COUNTRY),
+    ("PmtInf Cdtr PstlAdr AdrLine", LINE),
     ("PmtInf CdtrAcct Id IBAN", IBAN),
     ("PmtInf CdtrAgt FinInstnId BICFI", BIC),
     ("PmtInf CdtrAgt FinInstnId Othr Id", NO_BANK),
@@ -207,6 +278,12 @@ pub const TEXTS: [(&str, Kind); 31] = [
     ("PmtInf DrctDbtTxInf DbtrAgt FinInstnId BICFI", BIC),
     ("PmtInf DrctDbtTxInf DbtrAgt FinInstnId Othr Id", NO_BANK),
     ("PmtInf DrctDbtTxInf Dbtr Nm", NAME),
+    ("PmtInf DrctDbtTxInf Dbtr PstlAdr StrtNm", STREET),
+    ("PmtInf DrctDbtTxInf Dbtr PstlAdr BldgNb", BUILDING),
+    ("PmtInf DrctDbtTxInf Dbtr PstlAdr PstCd", POST_CODE),
+    ("PmtInf DrctDbtTxInf Dbtr PstlAdr TwnNm", TOWN),
+    ("PmtInf DrctDbtTxInf Dbtr PstlAdr Ctry", COUNTRY),
+    ("PmtInf DrctDbtTxInf Dbtr PstlAdr AdrLine", LINE),
     ("PmtInf DrctDbtTxInf DbtrAcct Id IBAN", IBAN),
     ("PmtInf DrctDbtTxInf RmtInf Ustrd", REMITTANCE),
 ];

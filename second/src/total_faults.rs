@@ -70,7 +70,7 @@ fn wrong_sum(right: u64, random: &mut Random) -> String {
 }
 
 /// A random batch of the draft, if one is left.
-fn any_batch<'a>(draft: &'a mut Draft, random: &mut Random) -> Option<&'a mut Node> {
+pub fn any_batch<'a>(draft: &'a mut Draft, random: &mut Random) -> Option<&'a mut Node> {
     let mut batches = draft.root.named_mut("PmtInf");
     batches.retain(|batch| is_holder(batch));
     (!batches.is_empty()).then(|| {

@@ -1,7 +1,8 @@
 //! A message as a tree of nodes, grown from the profile, so that it can be damaged before it is
 //! rendered. A node may also be raw bytes, which are of no element.
 
-use crate::profile::{closing, opening, root, Part, WHITE_SPACE};
+use crate::address_draft::{furnish, Addresses};
+use crate::profile::{closing, opening, root, Part, ADDRESS, WHITE_SPACE};
 use crate::random::Random;
 use crate::rules::{amount, rule_of};
 use crate::samples::{good, spelled_cents, spelled_count, Size};
@@ -36,11 +37,13 @@ pub enum Presence {
     Mixed,
 }
 
-/// The number of transactions of each batch, the length of the texts and the presence.
+/// The number of transactions of each batch, the length of the texts, the presence and the
+/// postal addresses.
 pub struct Shape {
     pub batches: Vec<usize>,
     pub size: Size,
     pub presence: Presence,
+    pub addresses: Addresses,
 }
 
 /// A good message of that shape, with every total right.
@@ -52,6 +55,7 @@ pub fn grow(shape: &Shape, random: &mut Random) -> Node {
         path: Vec::new(),
     };
     let mut root = grower.part(&root()).remove(0);
+    furnish(&mut root, shape.addresses, shape.size, random);
     root.declare(random);
     root
 }
@@ -64,12 +68,14 @@ struct Grower<'a> {
 }
 
 impl Grower<'_> {
+    /// What grows for a part of the tree. Addresses do not: what they hold depends on a date.
     fn part(&mut self, part: &Part) -> Vec<Node> {
         match part {
+            Part::Holder(name, _) if name == ADDRESS => Vec::new(),
             Part::Text(name) => vec![self.text(name)],
             Part::Holder(name, parts) => vec![self.holder(name, parts)],
             Part::Optional(part) if self.present() => self.part(part),
-            Part::Optional(_) => Vec::new(),
+            Part::Optional(_) | Part::UpTo(..) => Vec::new(),
             Part::Repeated(part) => self.repeated(part),
             Part::Either(parts) => {
                 let index = self.random.below(parts.len());

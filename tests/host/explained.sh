@@ -90,9 +90,9 @@ words() { # NUMBER FROM TO MEANS MEND
 $4
 To mend: $5"
 }
-words 51 '>FEE 1<' '><' 'A plain text (identifier, name, remittance) is empty or too long.' 'Fill it in, or shorten it.'
+words 51 '>FEE 1<' '><' 'A plain text (identifier, name, remittance, part of an address but the country) is empty or too long.' 'Fill it in, or shorten it.'
 words 55 '2026-11-10' '1899-11-10' 'A date or a time is no real one of the years 1900 to 2099, or is not written as its rule says.' 'Write a real day of the years 1900 to 2099 as 2026-11-10, a time as 2026-11-10T09:30:00.'
-shape='An IBAN, a BIC or a creditor identifier is not as its rule says, or a BIC is NOTPROVIDED.'
+shape='An IBAN, a BIC, a creditor identifier or a country is not as its rule says, or a BIC is NOTPROVIDED.'
 mend='Write it as its rule says, without spaces. Take it from the document it was copied from; do not guess it. A BIC that is not known is left out.'
 words 57 'BBRUBEBB' 'NOTPROVIDED' "$shape" "$mend"
 words 57 'BE68539007547034' 'BE68' "$shape" "$mend"
@@ -122,7 +122,7 @@ hint 'tr A-F a-f < examples/day.list' 'This looks like a day list.' '`desk write
 hint 'cat examples/day.csv' 'This looks like a CSV.' '`desk list CSV -o LIST` makes a day list of it.'
 hint "(head -c 900 examples/day.xml; head -c 100 /dev/zero)" 'From here on the file has zero bytes: it was not written whole.' 'Fetch it again.'
 hint "sed 's/<PmtInf>/<!-- x --><PmtInf>/' examples/day.xml" 'A comment stands there; the profile has none.' 'Take it out.'
-hint "sed 's/<BtchBookg>true<.BtchBookg>/<BtchBookg\\/>/' examples/day.xml" 'An empty-element tag stands there; the profile has none.' 'Write the opening tag, the content and the closing tag.'
+hint "sed 's/<BtchBookg>true<.BtchBookg>/<BtchBookg\\/>/' examples/day.xml" 'An empty-element tag stands there; the profile has none.' 'Write the opening tag, the content and the closing tag; or take the element out, where it may be missing.'
 
 # A file that is cut off: in the header, in an amount, in white space.
 expect "head -c 190 examples/day.xml | desk check --explain - | tail -n +6" 0 '                                                     ^

@@ -1,4 +1,5 @@
 -- WHAT IS ANSWERED after the last event, as the code says it, of the row w and the totals y. Executable; that it is the verdict is proofs/Right.
+--   mixFound f       the first address whose mix is bad
 --   batchFound f     the first fault of a batch: of its count, else of its sum
 --   countFound w n, sumFound w c   the header's count, and its sum, where they are declared and differ
 --   answer r w y     what is answered where r is the room of the tables
@@ -19,6 +20,10 @@ use Rattle.heard.specs.Row.{Row}
 use Rattle.answer.specs.declared.Stage.{Stage}
 use Rattle.answer.specs.declared.Stage.the-variants.{Passed, Refused as Stopped}
 
+abbrev pub mixFound : Option Fault → Option Fault
+mixFound none = none
+mixFound (some f) = some (fault 59 (f .place))
+
 abbrev pub batchFound : Option Fault → Option Fault
 batchFound none = none
 batchFound (some f) = some (fault (ifTrue (eqb (f .number) 6) 6 7) (f .place))
@@ -35,6 +40,7 @@ answer r w y =
     at 3 (over (w .batches .left) (w .batches .place))
     ∷ at 4 (over (w .transactions .left) (w .transactions .place))
     ∷ w .bad
+    ∷ mixFound (w .mixes .found)
     ∷ batchFound (w .fault)
     ∷ countFound (w .said part.messageCount) (y .transactions)
     ∷ sumFound (w .said part.messageSum) (y .cents)

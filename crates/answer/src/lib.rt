@@ -7,8 +7,8 @@ ghost use Rattle.profile.specs.Limits.{mostBytes};
 ghost use Rattle.tree.specs.Parts as part;
 ghost use Rattle.message.specs.Verdict.{verdict, at, orElse, unless};
 ghost use Rattle.heard.specs.State.{over};
-ghost use Rattle.heard.specs.Row.{heardLength, flawSlot, batchesSlot, transactionsSlot, faultSlot, badIn, faultAt, rowOf};
-ghost use Rattle.answer.specs.Answer.{batchFound, countFound, sumFound, answer, stageFault};
+ghost use Rattle.heard.specs.Row.{heardLength, flawSlot, batchesSlot, transactionsSlot, faultSlot, mixSlot, badIn, faultAt, rowOf};
+ghost use Rattle.answer.specs.Answer.{mixFound, batchFound, countFound, sumFound, answer, stageFault};
 ghost use Rattle.answer.specs.Said.{said};
 use heard::Part;
 use heard::Slot;
@@ -74,6 +74,16 @@ fn text_stage(heard: &[u64]) -> Stage
     }
     let flaw = Flaw::of_number(n);
     Stage::Refused(Refusal::Text(flaw, heard[Slot::FLAW + 1] as usize))
+}
+
+fn mix_stage(heard: &[u64]) -> Stage
+    requires { ⌜ length (now heard) ≡ heardLength ⌝ }
+    ensures { λ r. ⌜ stageFault r ≡ mixFound (faultAt (getD (now (heard .entry)) mixSlot 0) (getD (now (heard .entry)) (mixSlot + 1) 0)) ⌝ }
+{
+    if heard[Slot::MIX] == 0 {
+        return Stage::Passed;
+    }
+    Stage::Refused(Refusal::AddressMix(heard[Slot::MIX + 1] as usize))
 }
 
 fn batch_stage(heard: &[u64]) -> Stage
@@ -160,6 +170,7 @@ pub fn answer(heard: &[u64], totals: Totals, slips: usize, rows: usize) -> Check
     let three = batches_stage(heard);
     let four = transactions_stage(heard);
     let texts = text_stage(heard);
+    let mixes = mix_stage(heard);
     let six = batch_stage(heard);
     let eight = count_stage(heard, n);
     let nine = sum_stage(heard, c);
@@ -168,7 +179,8 @@ pub fn answer(heard: &[u64], totals: Totals, slips: usize, rows: usize) -> Check
     let after_nine = or_else(ten, eleven);
     let after_eight = or_else(nine, after_nine);
     let after_six = or_else(eight, after_eight);
-    let after_texts = or_else(six, after_six);
+    let after_mixes = or_else(six, after_six);
+    let after_texts = or_else(mixes, after_mixes);
     let after_four = or_else(texts, after_texts);
     let after_three = or_else(four, after_four);
     let all = or_else(three, after_three);

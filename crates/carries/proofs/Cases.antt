@@ -1,4 +1,4 @@
--- WHAT ONE MESSAGE CARRIES, as the definitions compute it. It is not of the writer's making: it has white space, an InstrId, no declared counts and other spellings of amounts.
+-- WHAT ONE MESSAGE CARRIES, as the definitions compute it. It is not of the writer's making: it has white space, an InstrId, an address, no declared counts and other spellings of amounts.
 --   two-batches        its bytes: two batches of different terms
 --   carried-read       what a message carries is computed from its bytes
 --   two-carried        the collections of that message
@@ -35,7 +35,7 @@ two-batches =
     ascii " <Document xmlns=\"urn:iso:std:iso:20022:tech:xsd:pain.008.001.08\"><CstmrDrctDbtInitn><GrpHdr><MsgId>RUN</MsgId><CreDtTm>2026-11-02T09:30:00</CreDtTm><NbOfTxs>3</NbOfTxs><CtrlSum>3284</CtrlSum><InitgPty><Nm>Bureau</Nm></InitgPty></GrpHdr> "
     ∷ ascii "<PmtInf><PmtInfId>A</PmtInfId><PmtMtd>DD</PmtMtd><BtchBookg>false</BtchBookg><PmtTpInf><SvcLvl><Cd>SEPA</Cd></SvcLvl><LclInstrm><Cd>CORE</Cd></LclInstrm><SeqTp>FRST</SeqTp></PmtTpInf><ReqdColltnDt>2026-11-10</ReqdColltnDt>"
     ∷ creditor
-    ∷ ascii "<DrctDbtTxInf> <PmtId><InstrId>X1</InstrId><EndToEndId>FEE 1</EndToEndId></PmtId><InstdAmt Ccy=\"EUR\">3280</InstdAmt><DrctDbtTx><MndtRltdInf><MndtId>M-5</MndtId><DtOfSgntr>2009-09-01</DtOfSgntr></MndtRltdInf></DrctDbtTx><DbtrAgt><FinInstnId><BICFI>BANKGB2L</BICFI></FinInstnId></DbtrAgt><Dbtr><Nm>Anne</Nm></Dbtr><DbtrAcct><Id><IBAN>GB29NWBK60161331926819</IBAN></Id></DbtrAcct><RmtInf><Ustrd>Facture</Ustrd></RmtInf></DrctDbtTxInf>"
+    ∷ ascii "<DrctDbtTxInf> <PmtId><InstrId>X1</InstrId><EndToEndId>FEE 1</EndToEndId></PmtId><InstdAmt Ccy=\"EUR\">3280</InstdAmt><DrctDbtTx><MndtRltdInf><MndtId>M-5</MndtId><DtOfSgntr>2009-09-01</DtOfSgntr></MndtRltdInf></DrctDbtTx><DbtrAgt><FinInstnId><BICFI>BANKGB2L</BICFI></FinInstnId></DbtrAgt><Dbtr><Nm>Anne</Nm><PstlAdr><TwnNm>Leeds</TwnNm><Ctry>GB</Ctry></PstlAdr></Dbtr><DbtrAcct><Id><IBAN>GB29NWBK60161331926819</IBAN></Id></DbtrAcct><RmtInf><Ustrd>Facture</Ustrd></RmtInf></DrctDbtTxInf>"
     ∷ ascii "<DrctDbtTxInf><PmtId><EndToEndId>FEE 2</EndToEndId></PmtId><InstdAmt Ccy=\"EUR\">0003.5</InstdAmt><DrctDbtTx><MndtRltdInf><MndtId>M-6</MndtId><DtOfSgntr>1989-07-03</DtOfSgntr></MndtRltdInf></DrctDbtTx><DbtrAgt><FinInstnId><Othr><Id>NOTPROVIDED</Id></Othr></FinInstnId></DbtrAgt><Dbtr><Nm>Bert</Nm></Dbtr><DbtrAcct><Id><IBAN>BE30001216371411</IBAN></Id></DbtrAcct></DrctDbtTxInf></PmtInf>"
     ∷ ascii "<PmtInf><PmtInfId>B</PmtInfId><PmtMtd>DD</PmtMtd><PmtTpInf><SvcLvl><Cd>SEPA</Cd></SvcLvl><LclInstrm><Cd>B2B</Cd></LclInstrm><SeqTp>FNAL</SeqTp></PmtTpInf><ReqdColltnDt>2026-12-01</ReqdColltnDt>"
     ∷ creditor

@@ -5,14 +5,16 @@
 --   profile-contents                 the contents are within the profile: so is what the message says
 --   agree-contents                   every declared count and sum is that of the collections: all agree
 use Prim.Native.Nat.{ℕ, _+_}
+use mathlib.Core.Bool.{false}
 use mathlib.Core.List.{List, [], _∷_, map}
 use mathlib.Core.Option.{Option, none, some}
 use mathlib.Core.Path.{_≡_, refl, ap, ap₂, sym, _∙_}
 use lib.Dec.{T}
 use lib.ListN.{length, length-map, length-append}
 use Rattle.laws.specs.Bytes.{Bytes}
-use Rattle.laws.specs.Lists.{total, All, concat}
-use Rattle.laws.proofs.Counts.{total-append}
+use Rattle.laws.specs.Lists.{total, All, concat, gather}
+use Rattle.laws.proofs.Counts.{total-append, All-append}
+use Rattle.laws.proofs.Sections.{all-before, all-parts, the-none}
 use Rattle.profile.specs.declared.Totals.{Totals}
 use Rattle.text.specs.Rules.{good}
 use Rattle.tree.specs.Form.{Message, message}
@@ -20,12 +22,13 @@ use Rattle.tree.specs.Pain008.{Document, declaration}
 use Rattle.tree.specs.Parts as part
 use Rattle.message.specs.declared.Told.{Told}
 use Rattle.message.specs.Message as said
+use Rattle.message.specs.Addresses.{partiesIn, partiesOf, goodAddress}
 use Rattle.message.specs.Verdict.{totalsOf}
 use Rattle.promise.specs.Check.{saidBy}
 use Rattle.promise.specs.Demand2.{Agrees, AllAgree, InProfile}
 use Rattle.collections.specs.Listed.{Terms, Collection}
 use Rattle.carries.specs.Carried.{termsFrom, collectionFrom, carriedIn, carriedBy}
-use Rattle.carries.specs.Contents.{contents, contentOf, parts, allOf, the, carriedOf, collectionsIn, ProfileIn, Agreed, totalCents, BatchAgreed, AgreedIn}
+use Rattle.carries.specs.Contents.{contents, contentOf, is, parts, allOf, the, carriedOf, collectionsIn, ProfileIn, Agreed, totalCents, BatchAgreed, AgreedIn}
 use Rattle.carries.proofs.Fewest.{carried-batches}
 use Rattle.carries.proofs.Said.{said-contents}
 use Rattle.carries.proofs.Finds.{seen, seenIf, all-seen, the-seen, parts-seen, in-seen, carried-seen}
@@ -61,11 +64,32 @@ module _ (s : Bytes) where
   texts-seen [] h = tt
   texts-seen (t ∷ ts) h = (h .0, texts-seen ts (h .1))
 
+  -- without an address no party has one
+  no-addresses : (ts : List Told) → All (λ t. said.is part.address t ≡ false) ts → All (λ x. T (goodAddress x)) (partiesOf ts)
+  no-addresses ts h = in-batches (said.parts part.batch ts) (all-parts (λ t. t .part) part.batch (λ t. said.is part.address t ≡ false) ts h)
+    where
+      parties : (d : ℕ) (qs : List (List Told)) → All (All (λ t. said.is part.address t ≡ false)) qs → All (λ x. T (goodAddress x)) (map (λ q. record { date = d; said = q }) qs)
+      parties d [] h = tt
+      parties d (q ∷ qs) h = (rw (the-none (λ t. t .part) part.address q (h .0)) tt, parties d qs (h .1))
+
+      in-batches : (ps : List (List Told)) → All (All (λ t. said.is part.address t ≡ false)) ps → All (λ x. T (goodAddress x)) (gather partiesIn ps)
+      in-batches [] h = tt
+      in-batches (p ∷ ps) h =
+          All-append (λ x. T (goodAddress x)) (partiesIn p) (gather partiesIn ps)
+          (parties (said.worthOf (said.the part.collectionDate p)) (said.before part.transaction p ∷ said.parts part.transaction p)
+          (all-before (λ t. t .part) part.transaction (λ t. said.is part.address t ≡ false) p (h .0), all-parts (λ t. t .part) part.transaction (λ t. said.is part.address t ≡ false) p (h .0)))
+          (in-batches ps (h .1))
+
+  none-seen : (ts : List Told) → All (λ t. is part.address t ≡ false) (seen s ts) → All (λ t. said.is part.address t ≡ false) ts
+  none-seen [] h = tt
+  none-seen (t ∷ ts) h = (h .0, none-seen ts (h .1))
+
   profile-seen : (ts : List Told) → ProfileIn (seen s ts) → InProfile ts
   profile-seen ts h = record {
     batches = rw (length-all part.batch ts) (h .batches);
     transactions = rw (length-all part.transaction ts) (h .transactions);
     texts = texts-seen ts (h .texts);
+    addresses = no-addresses ts (none-seen ts (h .addresses));
   }
 
   -- ─── what is declared ───

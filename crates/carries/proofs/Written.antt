@@ -7,6 +7,7 @@
 --   written-carries        IT CARRIES ITS BATCHES, collection by collection
 use Prim.Native.Nat.{ℕ, suc, _+_, _≤_}
 use native.Mathlib.Omega.{arith}
+use mathlib.Core.Bool.{false}
 use mathlib.Core.List.{List, [], _∷_, _++_, map}
 use mathlib.Core.Option.{Option, none, some}
 use mathlib.Core.Path.{_≡_, refl, ap, ap₂, sym, subst, _∙_}
@@ -15,7 +16,8 @@ use lib.ListN.{length, length-map, length-append}
 use Rattle.laws.specs.Bytes.{Bytes}
 use Rattle.laws.specs.Lists.{All, concat, gather, number}
 use Rattle.laws.specs.Sections.{lastOr}
-use Rattle.laws.proofs.Below.{each}
+use Rattle.laws.proofs.Below.{each, of-each}
+use Rattle.laws.proofs.Tests.{T-false}
 use Rattle.laws.proofs.Sections.{length-all}
 use Rattle.laws.proofs.Counts.{All-append, All-map}
 use Rattle.profile.specs.Limits.{mostBytes, mostBatches, mostCollections}
@@ -38,12 +40,12 @@ use Rattle.written.proofs.Numerals.{count-good, sum-good, amount-good, batch-id
 use Rattle.written.proofs.Printed.{pieces-written}
 use Rattle.written.proofs.Lengths.{all-concat, cents-most, message-length}
 use Rattle.carries.specs.Carried.{carriedBy, Accepted}
-use Rattle.carries.specs.Contents.{Content, contents, allOf, the, collectionsIn, carriedOf, ProfileIn, Agreed, totalCents, BatchAgreed, AgreedIn}
+use Rattle.carries.specs.Contents.{Content, contents, is, allOf, the, collectionsIn, carriedOf, ProfileIn, Agreed, totalCents, BatchAgreed, AgreedIn}
 use Rattle.carries.specs.Held.{txt, bankHeld, remittanceHeld, debtor, transactionHeld, schemeHeld, batchHeld, messageHeld}
 use Rattle.carries.proofs.Finds.{carried-contents}
 use Rattle.carries.proofs.Exact.{profile-contents, agree-contents}
 use Rattle.carries.proofs.Held.{length-number, message-held}
-use Rattle.carries.proofs.Among.{each-gather, without, all-append, all-without}
+use Rattle.carries.proofs.Among.{each-append, each-gather, without, all-append, all-without}
 use Rattle.carries.proofs.Collected.{behind-without, count-found, sum-found, transactions-held, batch-collections, message-batches}
 
 pub record GoodBatch (b : List Collection) : Type 0 where
@@ -224,11 +226,38 @@ module _ (cr : Creditor) where
       ∙ ap₂ (λ (x y : ℕ). x + y) (transactions-in n b) (transactions-count (suc n) bs)
       ∙ sym (length-append b (concat bs))
 
+  -- no element is an address
+  bank-plain : (b : Bytes) → T (each (without part.address) (bankHeld part.debtorBank b))
+  bank-plain [] = tt
+  bank-plain (c ∷ b) = tt
+
+  creditor-bank-plain : (b : Bytes) → T (each (without part.address) (bankHeld 0 b))
+  creditor-bank-plain [] = tt
+  creditor-bank-plain (c ∷ b) = tt
+
+  remittance-plain : (s : Bytes) → T (each (without part.address) (remittanceHeld s))
+  remittance-plain [] = tt
+  remittance-plain (c ∷ s) = tt
+
+  transaction-plain : (x : Collection) → T (each (without part.address) (transactionHeld x))
+  transaction-plain x =
+      each-append (without part.address) (bankHeld part.debtorBank (x .bank)) (debtor (x .debtorName) (x .debtorAccount) ++ remittanceHeld (x .remittance)) (bank-plain (x .bank)) (remittance-plain (x .remittance))
+
+  batch-plain : (q : ℕ × List Collection) → T (each (without part.address) (batchHeld cr q))
+  batch-plain q =
+      each-append (without part.address) (bankHeld 0 (cr .bank) ++ schemeHeld (cr .identifier)) (gather transactionHeld (q .1))
+      (each-append (without part.address) (bankHeld 0 (cr .bank)) (schemeHeld (cr .identifier)) (creditor-bank-plain (cr .bank)) tt)
+      (each-gather (without part.address) transactionHeld (q .1) transaction-plain)
+
+  held-plain : (bs : List (List Collection)) → T (each (without part.address) (messageHeld cr bs))
+  held-plain bs = each-gather (without part.address) (batchHeld cr) (number 1 bs) batch-plain
+
   held-profile : (bs : List (List Collection)) → MessageReady cr bs → ProfileIn (messageHeld cr bs)
   held-profile bs r = record {
     batches = rw (batches-count bs) (r .few);
     transactions = omega (arith, transactions-count 1 bs, r .collections);
     texts = held-fine cr (r .creditor) bs r;
+    addresses = of-each (without part.address) (λ c. is part.address c ≡ false) (λ c. T-false (is part.address c)) (messageHeld cr bs) (held-plain bs);
   }
 
   -- ─── the theorems ───

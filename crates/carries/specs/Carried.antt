@@ -50,7 +50,7 @@ collectionBy worth text k = record {
 abbrev pub termsFrom : Bytes → List Told → Terms
 termsFrom s p = termsBy (λ n. worthOf (the n p)) (λ n. textAt s (the n p))
 
--- a bank without a BICFI is NOTPROVIDED, which a collection frame has as the empty BIC; a missing RmtInf is no remittance
+-- a bank without a BICFI is NOTPROVIDED, which a collection frame has as the empty BIC; a missing RmtInf is no remittance; addresses "don't count when collections are compared" (request 3)
 abbrev pub collectionFrom : Bytes → Terms → List Told → Collection
 collectionFrom s k p = collectionBy (λ n. worthOf (the n p)) (λ n. textAt s (the n p)) k
 

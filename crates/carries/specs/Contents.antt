@@ -5,10 +5,10 @@
 --   is, before, parts, allOf, the   the elements of a part, as Sections says
 --   worth o, textOf o      the number that a text states, and the text; 0 and empty where there is none
 --   termsIn p, collectionIn k p, collectionsIn p, carriedOf cs   the collections
---   ProfileIn cs           as InProfile: the limits of batches and transactions, and the texts
+--   ProfileIn cs           more than InProfile: the limits of batches and transactions, the texts, and no address
 --   AgreedIn cs            as AllAgree: every declared count and sum is that of the collections
 use Prim.Native.Nat.{ℕ, _≤_}
-use mathlib.Core.Bool.{Bool}
+use mathlib.Core.Bool.{Bool, false}
 use mathlib.Core.List.{List, [], _∷_, map}
 use mathlib.Core.Option.{Option, none, some}
 use mathlib.Core.Path.{_≡_}
@@ -96,6 +96,7 @@ pub record ProfileIn (cs : List Content) : Type 0 where
   pub batches : length (allOf part.batch cs) ≤ mostBatches
   pub transactions : length (allOf part.transaction cs) ≤ mostTransactions
   pub texts : All (λ t. T (good (t .judged))) cs
+  pub addresses : All (λ t. is part.address t ≡ false) cs
 
 -- a declaration is absent, or states the number n
 abbrev pub Agreed : Option Content → ℕ → Type 0

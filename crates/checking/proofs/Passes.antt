@@ -118,7 +118,7 @@ module _ (s : Bytes) (slips rows a b : List ℕ) (ns₀ ns : List ℕ) (y₀ : T
     verdict-judged room r v =
         let x = was-read y e in
         let d = ended in
-        inr (inr (x .short, (x .read, (x .bytes, v ∙ verdict-right slips rows (saidBy (x .read)) w z room (d .said) (d .bad) (d .batches) (d .transactions) (d .fault) (d .totals)))))
+        inr (inr (x .short, (x .read, (x .bytes, v ∙ verdict-right slips rows (saidBy (x .read)) w z room (d .said) (d .bad) (d .batches) (d .transactions) (d .fault) (d .mixes) (d .totals)))))
 
     pub filled : Fills s slips rows a′ b′
     unfolding Fills

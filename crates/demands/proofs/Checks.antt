@@ -1,6 +1,6 @@
 -- DEMANDS 1 AND 2, OF EVERY OUTCOME OF THE CHECK: its verdict in numbers, and both tables.
 --   rows-tell   the rows of a table say what each batch declares, and where it declares nothing
---   numbers, keeps, exactly, of-message, belongs, answers, absent, texts   the sentences of the demands
+--   numbers, keeps, exactly, of-message, belongs, answers, absent, texts, addresses   the sentences of the demands
 use Prim.Native.Nat.{ℕ, _+_, _*_, _≤_}
 use native.Mathlib.Omega.{arith}
 use mathlib.Core.List.{List, [], _∷_, _++_, append-assoc}
@@ -24,9 +24,11 @@ use Rattle.message.specs.Verdict.{Verdict, Verdict.accepted, Verdict.refused, d
 use Rattle.promise.specs.Check.{saidBy, roomOf, tableAfter, Long, OutOfForm, ByStages, Checks}
 use Rattle.promise.specs.Demand2.{InProfile, AllAgree, Belongs, Enough}
 use Rattle.promise.specs.Texts.{TextBreaks}
+use Rattle.promise.specs.Addresses.{AddressBreaks}
 use Rattle.promise.proofs.Outcome.{same-said, refusal-keeps}
 use Rattle.promise.proofs.Numbers.{refusal-number, belongs-exactly}
 use Rattle.promise.proofs.Texts.{At, text-refused}
+use Rattle.promise.proofs.Addresses as address
 use Rattle.promise.proofs.Demand2.{demand-2-accepts, demand-2-only}
 use Rattle.carries.specs.Carried.{Accepted}
 use Rattle.desk.specs.Answers.{checkedNumbers}
@@ -168,4 +170,16 @@ module _ (s : Bytes) (slips rows : List ℕ) (v : Verdict) (a b : List ℕ) (h :
           (g, (e, (sym (ap (λ (w : Verdict). checkedNumbers w .number) e) ∙ x .0, sym (ap (λ (w : Verdict). checkedNumbers w .place) e) ∙ x .1)))
 
       from : At s slips rows v a b h f p → (number ≡ flawNumber f) × (checkedNumbers v .place ≡ p)
+      from (g, (e, (n, d))) = (ap (λ (w : Verdict). checkedNumbers w .number) e ∙ n, ap (λ (w : Verdict). checkedNumbers w .place) e ∙ d)
+
+  pub addresses : (p : ℕ) → ((number ≡ 59) × (checkedNumbers v .place ≡ p)) ↔ ((m : Message Document) × AddressBreaks s m p)
+  addresses p = (to v refl, λ x. from (address.address-refused s slips rows v a b h p .1 x))
+    where
+      to : (w : Verdict) → v ≡ w → (number ≡ 59) × (checkedNumbers v .place ≡ p) → (m : Message Document) × AddressBreaks s m p
+      to (accepted t) e x = absurd (omega (arith, ap (λ (w : Verdict). checkedNumbers w .number) e, x .0))
+      to (refused g) e x =
+          address.address-refused s slips rows v a b h p .0
+          (g, (e, (sym (ap (λ (w : Verdict). checkedNumbers w .number) e) ∙ x .0, sym (ap (λ (w : Verdict). checkedNumbers w .place) e) ∙ x .1)))
+
+      from : address.At s slips rows v a b h p → (number ≡ 59) × (checkedNumbers v .place ≡ p)
       from (g, (e, (n, d))) = (ap (λ (w : Verdict). checkedNumbers w .number) e ∙ n, ap (λ (w : Verdict). checkedNumbers w .place) e ∙ d)

@@ -1,4 +1,4 @@
--- THE THREE DEMANDS, AND REQUEST 1, HOLD of all four operations.
+-- THE THREE DEMANDS, AND REQUESTS 1 AND 3, HOLD of all four operations.
 --   demands   THE CLAIM is proved
 use Prim.Native.Nat.{ℕ}
 use mathlib.Core.Logic.{_↔_}
@@ -23,7 +23,7 @@ use Rattle.write.proofs.Answers.{write-once}
 use Rattle.desk.specs.declared.DeskChecked.{DeskChecked}
 use Rattle.desk.specs.declared.DeskWritten.{DeskWritten}
 use Rattle.desk.specs.Answers.{checkedNumbers, writtenNumbers}
-use Rattle.demands.specs.Demands.{Tables, Job, Check, DeskCheck, Write, DeskWrite, checkTold, writeTold, Demand1, Demand2, Demand3, TextsRefused, ValuesRefused, Demands}
+use Rattle.demands.specs.Demands.{Tables, Job, Check, DeskCheck, Write, DeskWrite, checkTold, writeTold, Demand1, Demand2, Demand3, TextsRefused, ValuesRefused, AddressesRefused, Demands}
 use Rattle.demands.proofs.Flaws.{by-flaw}
 use Rattle.demands.proofs.Checks as check
 use Rattle.demands.proofs.Writes as write
@@ -73,6 +73,11 @@ module _ {A : Type 0} (allows : Bytes × Tables → A × Tables → Type 0) (tol
   refused-texts = record {
     numbered = by-texts;
     somewhere = λ x y p h. by-flaw (told (y .0) .number) (told (y .0) .place ≡ p) (λ f. (m : Message Document) × TextBreaks (x .0) m f p) (λ f. by-texts x y f p h);
+  }
+
+  refused-addresses : AddressesRefused allows told
+  refused-addresses = record {
+    numbered = λ x y p h. let o = of x y h in rw (o .numbers) (check.addresses (x .0) (x .1 .slips) (x .1 .rows) (o .verdict) (y .1 .slips) (y .1 .rows) (o .checks) p);
   }
 
 check-told : (x : Bytes × Tables) (y : Checked × Tables) → Check x y → Told x (checkTold (y .0)) (y .1)
@@ -153,6 +158,8 @@ demands = record {
   desk-write-3 = written-3 DeskWrite (λ r. r) (λ x y h. h);
   check-texts = refused-texts Check checkTold check-told;
   desk-check-texts = refused-texts DeskCheck (λ r. r) desk-told;
+  check-addresses = refused-addresses Check checkTold check-told;
+  desk-check-addresses = refused-addresses DeskCheck (λ r. r) desk-told;
   write-values = refused-values Write writeTold write-told;
   desk-write-values = refused-values DeskWrite (λ r. r) (λ x y h. h);
 }

@@ -1,4 +1,4 @@
--- THE CUSTOMER'S THREE DEMANDS, AND REQUEST 1, in the customer's order and words: each sentence a claim about what the operations answer and leave behind.
+-- THE CUSTOMER'S THREE DEMANDS, AND REQUESTS 1 AND 3, in the customer's order and words: each sentence a claim about what the operations answer and leave behind.
 -- To be believed: that this is what was demanded. That it holds is proofs/Hold.
 -- An operation is given x: its input (x .0), and the lent buffers at entry (x .1). Its outcome is y: its answer (y .0), and the buffers at exit (y .1).
 --   Tables, Job                          the two tables that a check is lent; the list and the ceiling that a writer is given
@@ -6,6 +6,7 @@
 --   checkTold, writeTold                 the answers of `check` and `write` in numbers
 --   Demand1, Demand2, Demand3            the demands, of an operation whose answers `told` gives in numbers
 --   TextsRefused, ValuesRefused          request 1: what is wrong with a text, and with a value of a list
+--   AddressesRefused                     request 3: the mix of an address
 --   Tells, RowTells, RowsTell            what a row says of a declaration, and of a batch; the rows of all batches
 --   LongEnough t m                       the tables t are long enough for the message m
 --   FixedMessage, FewestBatches          what demands 2 and 3 ask of a written message
@@ -34,6 +35,7 @@ use Rattle.answer.specs.Said.{said}
 use Rattle.promise.specs.Check.{saidBy, roomOf, Checks}
 use Rattle.promise.specs.Demand2.{Belongs, Enough}
 use Rattle.promise.specs.Texts.{TextBreaks}
+use Rattle.promise.specs.Addresses.{AddressBreaks}
 use Rattle.daylist.specs.Breaks.{ValueBreaks}
 use Rattle.bundle.specs.Bundle.{Fits}
 use Rattle.collections.specs.Listed.{listed}
@@ -202,6 +204,14 @@ module _ {A : Type 0} (allows : Job × Bytes → A × Bytes → Type 0) (told : 
     -- and no other answer has a field
     pub no-field : (x : Job × Bytes) (y : A × Bytes) → allows x y → (TextNumber (told (y .0) .number) → ⊥) → told (y .0) .field ≡ 0
 
+-- ─── request 3: "Postal addresses of debtors and creditors" ───
+
+module _ {A : Type 0} (allows : Bytes × Tables → A × Tables → Type 0) (told : A → DeskChecked) where
+  pub record AddressesRefused : Type 0 where
+    -- "59 address mix, at the `<` of PstlAdr, a stage of its own after all texts and before totals": it asks nothing of totals and tables
+    pub numbered : (x : Bytes × Tables) (y : A × Tables) (p : ℕ) → allows x y
+        → ((told (y .0) .number ≡ 59) × (told (y .0) .place ≡ p)) ↔ ((m : Message Document) × AddressBreaks (x .0) m p)
+
 -- ─── the claim ───
 
 pub record Demands : Type 0 where
@@ -215,5 +225,7 @@ pub record Demands : Type 0 where
   pub desk-write-3 : Demand3 DeskWrite (λ r. r)
   pub check-texts : TextsRefused Check checkTold
   pub desk-check-texts : TextsRefused DeskCheck (λ r. r)
+  pub check-addresses : AddressesRefused Check checkTold
+  pub desk-check-addresses : AddressesRefused DeskCheck (λ r. r)
   pub write-values : ValuesRefused Write writeTold
   pub desk-write-values : ValuesRefused DeskWrite (λ r. r)

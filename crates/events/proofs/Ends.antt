@@ -26,6 +26,7 @@ use Rattle.message.specs.Verdict.{orElse}
 use Rattle.heard.specs.State.{ifAny, Word, countOf, sumOf, batchFrom, faultIn, declaredParts, rowNumbers, putIfRoom, slipParts, slipNumbers, settledTally, settledSlips}
 use Rattle.heard.specs.Row.{Row, rowOf, stateOf, withFault}
 use Rattle.heard.specs.Bounds.{Within}
+use Rattle.heard.proofs.Fold.{or-none}
 use Rattle.heard.proofs.Rows.{any-some}
 use Rattle.events.proofs.Columns.{columns}
 
@@ -74,10 +75,6 @@ pub batch-is : (said : ℕ → Word) (y : Tally) (c : DeclaredCount) (s : Declar
     → record { count = y .count; sum = y .sum; «declared_count» = c; «declared_sum» = s } ≡ batchFrom said y
 batch-is said y c s e f = λ i. record { count = y .count; sum = y .sum; «declared_count» = e i; «declared_sum» = f i }
 
-or-none : (f : Option Fault) → f ≡ orElse f none
-or-none none = refl
-or-none (some x) = refl
-
 module _ (ns : List ℕ) (b : Batch) (z : Bool) (e : z ≡ countDiffers (b .«declared_count») (b .count)) where
   abbrev goal : Row
   goal = withFault (rowOf ns) (faultIn b (rowOf ns .said part.batchCount .start) (rowOf ns .said part.batchSum .start))
@@ -93,7 +90,7 @@ module _ (ns : List ℕ) (b : Batch) (z : Bool) (e : z ≡ countDiffers (b .«de
 
     pub noted-none : x ≡ false → rowOf ns ≡ goal
     noted-none t =
-        (λ i. record { said = rowOf ns .said; bad = rowOf ns .bad; batches = rowOf ns .batches; transactions = rowOf ns .transactions; fault = or-none (rowOf ns .fault) i })
+        (λ i. record { said = rowOf ns .said; bad = rowOf ns .bad; batches = rowOf ns .batches; transactions = rowOf ns .transactions; fault = sym (or-none (rowOf ns .fault)) i; mixes = rowOf ns .mixes })
         ∙ rw (sym e ∙ o, sym f ∙ t) refl
 
 pub terms-small : (ns : List ℕ) (y : Tally) (u v : ℕ) → Within (mostBytes + 1) (stateOf ns y [] []) → u ≡ getD ns (4 * part.scheme + 3) 0 → v ≡ getD ns (4 * part.sequence + 3) 0 → (u ≤ 3) × (v ≤ 3)

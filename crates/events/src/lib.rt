@@ -7,14 +7,14 @@ ghost use Rattle.laws.specs.Lists.{gather, All};
 ghost use Rattle.profile.specs.Limits.{mostBytes};
 ghost use Rattle.tree.specs.Parts as part;
 ghost use Rattle.text.specs.Rules.{judged};
-ghost use Rattle.text.specs.declared.Judged.the-variants.{Good};
 ghost use Rattle.heard.specs.State.{batchFrom, faultIn, putIfRoom, slipNumbers, rowNumbers, settledTally, settledSlips, shut, step};
 ghost use Rattle.heard.specs.Row.{heardLength, rowOf, stateOf, withFault};
 ghost use Rattle.tree.specs.Parts.{partsEnd};
 ghost use Rattle.heard.specs.Bounds.{Within};
-ghost use Rattle.events.specs.Events.{endedRows, endedRow, toldRow, Plain, Finished};
+ghost use Rattle.events.specs.Events.{endedRows, endedRow, toldRow, heldAt, Plain, Finished};
 use heard::Part;
 use heard::Word;
+use heard::mixes;
 use heard::row;
 use profile::Batch;
 use profile::ControlSum;
@@ -167,7 +167,7 @@ fn put_row(heard: &[u64], rows: &mut [u64], tally: Tally)
     fill_row(&mut rows[at..at + Profile::ROW], heard, tally);
 }
 
-// The open batch ends: its row is put, and its fault noted, where a batch is open.
+// The open batch ends: its row is put, its fault noted, and the first bad mix of its addresses, where a batch is open.
 fn end_batch(heard: &mut [u64], rows: &mut [u64], tally: Tally)
     requires { ⌜ (length (now heard) ≡ heardLength) × Within (mostBytes + 1) (stateOf (now heard) tally [] []) ⌝ }
     ensures rows { λ _. ⌜ now (rows .exit) ≡ endedRows (rowOf (now (heard .entry))) tally (now (rows .entry)) ⌝ }
@@ -178,15 +178,18 @@ fn end_batch(heard: &mut [u64], rows: &mut [u64], tally: Tally)
     }
     put_row(heard, rows, tally);
     let batch = batch_of(heard, tally);
+    let date = row::number(heard, Part::COLLECTION_DATE, Word::WORTH);
     note_batch(heard, batch);
+    mixes::end(heard, date);
 }
 
-// The open transaction and the open batch are added to the tally.
+// The open transaction and the open batch are added to the tally, and the open address is judged.
 fn shut(heard: &mut [u64], slips: &mut [u64], rows: &mut [u64], tally: Tally) -> Tally
     requires { ⌜ (length (now heard) ≡ heardLength) × Within mostBytes (stateOf (now heard) tally [] []) ⌝ }
     ensures { λ r. ⌜ stateOf (now (heard .exit)) r (now (slips .exit)) (now (rows .exit)) ≡ shut (stateOf (now (heard .entry)) tally (now (slips .entry)) (now (rows .entry))) ⌝ }
 {
     let settled = settle(heard, slips, tally);
+    mixes::judge(heard);
     end_batch(heard, rows, settled);
     settled.close_batch()
 }
@@ -209,6 +212,49 @@ pub fn text(heard: &mut [u64], message: &[u8], rule: Rule, part: usize, start: u
     }
 }
 
+// A batch begins: its opening tag stands at `place`, and white space of this size after it at `start`.
+fn begin_batch(
+    heard: &mut [u64],
+    slips: &mut [u64],
+    rows: &mut [u64],
+    place: usize,
+    start: usize,
+    size: usize,
+    tally: Tally,
+) -> Tally
+    requires { ⌜ (length (now heard) ≡ heardLength) × Within mostBytes (stateOf (now heard) tally [] []) ⌝ }
+    ensures { λ r. ⌜ stateOf (now (heard .exit)) r (now (slips .exit)) (now (rows .exit))
+        ≡ step (stateOf (now (heard .entry)) tally (now (slips .entry)) (now (rows .entry))) (heldAt part.batch place start size) ⌝ }
+{
+    let closed = shut(heard, slips, rows, tally);
+    mixes::begin(heard);
+    row::forget(heard, Part::BATCH);
+    row::count_batch(heard, place);
+    row::say(heard, Part::BATCH, start, size, 0);
+    closed.begin_batch()
+}
+
+// A transaction begins.
+fn begin_transaction(
+    heard: &mut [u64],
+    slips: &mut [u64],
+    place: usize,
+    start: usize,
+    size: usize,
+    tally: Tally,
+) -> Tally
+    requires { ⌜ (length (now heard) ≡ heardLength) × Within mostBytes (stateOf (now heard) tally [] []) ⌝ }
+    ensures { λ r. ⌜ ((rows : List ℕ) → stateOf (now (heard .exit)) r (now (slips .exit)) rows
+        ≡ step (stateOf (now (heard .entry)) tally (now (slips .entry)) rows) (heldAt part.transaction place start size)) ⌝ }
+{
+    let settled = settle(heard, slips, tally);
+    mixes::judge(heard);
+    row::forget(heard, Part::TRANSACTION);
+    row::count_transaction(heard, place);
+    row::say(heard, Part::TRANSACTION, start, size, 0);
+    settled
+}
+
 // An element that holds elements begins: its opening tag stands at `place`, and white space of this size after it at `start`.
 pub fn begin(
     heard: &mut [u64],
@@ -222,21 +268,18 @@ pub fn begin(
 ) -> Tally
     requires { ⌜ (length (now heard) ≡ heardLength) × ((part < partsEnd) × Within mostBytes (stateOf (now heard) tally [] [])) ⌝ }
     ensures { λ r. ⌜ stateOf (now (heard .exit)) r (now (slips .exit)) (now (rows .exit))
-        ≡ step (stateOf (now (heard .entry)) tally (now (slips .entry)) (now (rows .entry))) (record { part = part; place = place; start = start; length = size; judged = Good 0 }) ⌝ }
+        ≡ step (stateOf (now (heard .entry)) tally (now (slips .entry)) (now (rows .entry))) (heldAt part place start size) ⌝ }
 {
     if part == Part::BATCH {
-        let closed = shut(heard, slips, rows, tally);
-        row::forget(heard, Part::BATCH);
-        row::count_batch(heard, place);
-        row::say(heard, Part::BATCH, start, size, 0);
-        return closed.begin_batch();
+        return begin_batch(heard, slips, rows, place, start, size, tally);
     }
     if part == Part::TRANSACTION {
-        let settled = settle(heard, slips, tally);
-        row::forget(heard, Part::TRANSACTION);
-        row::count_transaction(heard, place);
-        row::say(heard, Part::TRANSACTION, start, size, 0);
-        return settled;
+        return begin_transaction(heard, slips, place, start, size, tally);
+    }
+    if part == Part::ADDRESS {
+        mixes::open_address(heard, place);
+        row::say(heard, Part::ADDRESS, start, size, 0);
+        return tally;
     }
     row::say(heard, part, start, size, 0);
     tally

@@ -1,4 +1,5 @@
 -- FOLDS OVER THE EVENTS, generic.
+--   or-none, or-assoc the first of two, or of three, that is there
 --   fold, project     a part of the state that goes by itself
 --   keeps             a state that keeps the last element of a part
 --   stays             what no event changes
@@ -8,16 +9,27 @@
 use Prim.Native.Nat.{ℕ}
 use mathlib.Core.Bool.{Bool, true, false}
 use mathlib.Core.List.{List, [], _∷_, map}
-use mathlib.Core.Option.{Option, some}
+use mathlib.Core.Option.{Option, none, some}
 use mathlib.Core.Path.{_≡_, refl, ap, sym, _∙_}
 use Rattle.message.specs.declared.Told.{Told}
 use Rattle.message.specs.Message.{is, before, parts, allOf, lastOr}
+use Rattle.message.specs.Verdict.{orElse}
 use Rattle.heard.specs.State.{ifTrue}
 
 -- two cases
 pub by-bool : (P : Bool → Type 0) (z : Bool) → P true → P false → P z
 by-bool P true a b = a
 by-bool P false a b = b
+
+-- the first of two that is there
+module _ {A : Type 0} where
+  pub or-none : (a : Option A) → orElse a none ≡ a
+  or-none none = refl
+  or-none (some x) = refl
+
+  pub or-assoc : (a b c : Option A) → orElse (orElse a b) c ≡ orElse a (orElse b c)
+  or-assoc none b c = refl
+  or-assoc (some x) b c = refl
 
 abbrev pub fold : {S E : Type 0} → (S → E → S) → S → List E → S
 fold f s [] = s

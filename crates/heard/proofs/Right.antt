@@ -4,7 +4,7 @@
 --   Quiet, quiet        before the first batch nothing is counted, and nothing put
 --   alone, first-bad, over-right   what goes by itself: the first text that breaks its rule, and the place of the element that is one too many
 --   heard               what was heard of all events, shut
---   totals-right, fault-right, bad-right, batches-right, transactions-right, count-right, sum-right, slips-right, rows-right   THE THEOREMS
+--   totals-right, fault-right, mix-right, bad-right, batches-right, transactions-right, count-right, sum-right, slips-right, rows-right   THE THEOREMS
 use Prim.Native.Nat.{ℕ, zero, suc, _+_, _*_, _≤_}
 use native.Mathlib.Nat.{add-zero, zero-add}
 use native.Mathlib.Omega.{arith}
@@ -24,21 +24,15 @@ use Rattle.tree.specs.Parts as part
 use Rattle.message.specs.declared.Told.{Told}
 use Rattle.message.specs.Message as M
 use Rattle.message.specs.Message.{is, before, parts, allOf, the, batchOf, batchesOf, exactCount, exactSum}
-use Rattle.message.specs.Verdict.{orElse, first, placeAfter, broken, firstBroken, batchFault, totalsOf, startAndLength, declared, slip, slipsFrom, slipsOf, row, rowsFrom, rowsOf}
+use Rattle.message.specs.Addresses.{partiesOf}
+use Rattle.message.specs.Verdict.{orElse, first, placeAfter, broken, firstBroken, mixFault, batchFault, totalsOf, startAndLength, declared, slip, slipsFrom, slipsOf, row, rowsFrom, rowsOf}
 use Rattle.heard.specs.State.{ifTrue, Limit, limitStep, over, putIfRoom, State, fresh, shut, added, began, saying, insideBatch, step}
-use Rattle.heard.proofs.Fold.{by-bool, fold, project, sections, run-view}
+use Rattle.heard.proofs.Fold.{by-bool, or-none, or-assoc, fold, project, sections, run-view}
 use Rattle.heard.proofs.Words.{wordOf, step-word}
+use Rattle.heard.proofs.Addresses.{found, found-right}
 use Rattle.heard.proofs.Batches.{slipsPut, Closed, closedOf, addBatch, one-batch}
 
 -- ─── 1. All batches ───
-
-or-none : {A : Type 0} (a : Option A) → orElse a none ≡ a
-or-none none = refl
-or-none (some x) = refl
-
-or-assoc : {A : Type 0} (a b c : Option A) → orElse (orElse a b) c ≡ orElse a (orElse b c)
-or-assoc none b c = refl
-or-assoc (some x) b c = refl
 
 abbrev addAll : Closed → List M.Batch → Closed
 addAll v bs = fold addBatch v bs
@@ -137,21 +131,22 @@ all-rows v (b ∷ bs) h =
 pub record Quiet (a b : State) : Type 0 where
   pub tally : b .tally ≡ freshTally
   pub fault : b .fault ≡ a .fault
+  pub found : b .mixes .found ≡ a .mixes .found
   pub slips : b .slips ≡ a .slips
   pub rows : b .rows ≡ a .rows
 
 quiet : (a : State) (ts : List Told) → a .tally ≡ freshTally → Quiet a (fold insideBatch a ts)
-quiet a [] h = record { tally = h; fault = refl; slips = refl; rows = refl }
+quiet a [] h = record { tally = h; fault = refl; found = refl; slips = refl; rows = refl }
 quiet a (t ∷ ts) h = go (one (is part.transaction t)) (λ y. quiet (insideBatch a t) ts y)
   where
     one : (z : Bool) → Quiet a (saying (ifTrue z (added a) a) t)
-    one true = record { tally = rw h refl; fault = refl; slips = rw h refl; rows = refl }
-    one false = record { tally = h; fault = refl; slips = refl; rows = refl }
+    one true = record { tally = rw h refl; fault = refl; found = refl; slips = rw h refl; rows = refl }
+    one false = record { tally = h; fault = refl; found = refl; slips = refl; rows = refl }
 
     go : Quiet a (insideBatch a t) → (insideBatch a t .tally ≡ freshTally → Quiet (insideBatch a t) (fold insideBatch (insideBatch a t) ts)) → Quiet a (fold insideBatch (insideBatch a t) ts)
     go q f =
         let r = f (q .tally) in
-        record { tally = r .tally; fault = r .fault ∙ q .fault; slips = r .slips ∙ q .slips; rows = r .rows ∙ q .rows }
+        record { tally = r .tally; fault = r .fault ∙ q .fault; found = r .found ∙ q .found; slips = r .slips ∙ q .slips; rows = r .rows ∙ q .rows }
 
 -- ─── 4. What goes by itself ───
 
@@ -218,6 +213,15 @@ module _ (slips rows : List ℕ) (ts : List Told) where
 
   pub fault-right : heard .fault ≡ first (map batchFault (batchesOf ts))
   fault-right = ap (λ (v : Closed). v .fault) closed-right ∙ all-faults start (batchesOf ts)
+
+  pub mix-right : heard .mixes .found ≡ first (map mixFault (partiesOf ts))
+  mix-right =
+      let a : State = fold insideBatch (fresh slips rows) (before part.batch ts) in
+      let q : Quiet (fresh slips rows) a = quiet (fresh slips rows) (before part.batch ts) refl in
+      found-right (fresh slips rows) ts (none-yet a (q .tally) (q .found))
+    where
+      none-yet : (a : State) → a .tally ≡ freshTally → a .mixes .found ≡ none → found a ≡ none
+      none-yet a y f = rw (y, f) refl
 
   pub slips-right : 12 * total exactCount (batchesOf ts) ≤ length slips → heard .slips ≡ putAt slips 0 (slipsOf ts)
   slips-right h = ap (λ (v : Closed). v .slips) closed-right ∙ all-slips start (batchesOf ts) (omega arith)

@@ -4,6 +4,7 @@
 --   words-put        a part says something
 --   words-forgot     what was said from a part on is taken back
 --   words-kept       a store beyond the words leaves them
+--   behind, twoIn, fault-one   the numbers after the words; two of them replaced; a first fault in two numbers
 --   row-said, row-forgot, row-two, row-noted, row-counted   what the row says then, and where two numbers are put into a slot
 --   said-lent, zero-step, forgot-all, flaw-noted, fault-noted, batch-counted, transaction-counted, note-kept, note-put, count-none, count-one
 --                    what each arm of the code leaves
@@ -13,7 +14,7 @@ use native.Mathlib.Nat.{add-zero, not-suc-le-zero}
 use native.Mathlib.Omega.{arith}
 use mathlib.Core.Bool.{Bool, _&&_}
 use mathlib.Core.List.{List, [], _∷_, _++_}
-use mathlib.Core.Option.{Option, none, some}
+use mathlib.Core.Option.{none, some}
 use mathlib.Core.Path.{_≡_, refl, ap, sym, _∙_}
 use mathlib.Core.Logic.{_≢_}
 use borrow.Author.Tests.{lt-ltb}
@@ -24,7 +25,7 @@ use Rattle.laws.proofs.Puts.{get-before, get-behind, get-in, put-nil, put-one, 
 use Rattle.laws.proofs.Below.{below}
 use Rattle.laws.proofs.Tests.{eqb-cases, ltb-cases, and-l, and-r}
 use Rattle.profile.specs.declared.Flaw.{Flaw}
-use Rattle.profile.specs.Refusals.{Fault, fault, flawNumber}
+use Rattle.profile.specs.Refusals.{fault, flawNumber}
 use Rattle.profile.specs.Flaws.{flawOf}
 use Rattle.profile.proofs.Faults.{flaw-number, flaw-back}
 use Rattle.profile.specs.Totals.{freshTally}
@@ -150,7 +151,7 @@ limit-is : {a a′ b b′ : ℕ} → a ≡ a′ → b ≡ b′ → limitAt a b �
 limit-is e f = λ i. limitAt (e i) (f i)
 
 -- the numbers after the words
-abbrev behind : List ℕ → ℕ → ℕ
+abbrev pub behind : List ℕ → ℕ → ℕ
 behind ns i = getD ns (flawSlot + i) 0
 
 -- a store in the words leaves them
@@ -179,7 +180,7 @@ two-is o a b g h i x y z =
 
 -- two numbers put into the slot o: what the row says then
 module _ (ns : List ℕ) (o : ℕ) (h : length ns ≡ heardLength) (l : flawSlot + o + 1 < heardLength) where
-  row-two : (a b : ℕ) → rowOf (putAt ns (flawSlot + o) (a ∷ b ∷ [])) ≡ rowBy (wordsIn ns) (twoIn o a b (behind ns))
+  pub row-two : (a b : ℕ) → rowOf (putAt ns (flawSlot + o) (a ∷ b ∷ [])) ≡ rowBy (wordsIn ns) (twoIn o a b (behind ns))
   unfolding rowOf
   row-two a b = row-by (words-kept ns (a ∷ b ∷ []) (flawSlot + o) (omega arith) (omega arith)) (λ i. sym (two-is o a b (behind ns) (behind put) i (λ e. sym first) (λ e. sym second) (other i)))
     where
@@ -207,7 +208,7 @@ module _ (ns : List ℕ) (o : ℕ) (h : length ns ≡ heardLength) (l : flawSlot
   row-same = row-by (λ p. refl) (λ i. sym (two-is o (behind ns o) (behind ns (suc o)) (behind ns) (behind ns) i (λ e. refl) (λ e. refl) (λ n m. refl)))
 
   -- a first fault is noted, or an earlier one stays
-  row-noted : (n p : ℕ) → rowOf (noted ns (flawSlot + o) n p) ≡ rowBy (wordsIn ns) (twoIn o (ifAny (behind ns o) (behind ns o) n) (ifAny (behind ns o) (behind ns (suc o)) p) (behind ns))
+  pub row-noted : (n p : ℕ) → rowOf (noted ns (flawSlot + o) n p) ≡ rowBy (wordsIn ns) (twoIn o (ifAny (behind ns o) (behind ns o) n) (ifAny (behind ns o) (behind ns (suc o)) p) (behind ns))
   row-noted n p = go (behind ns o) refl
     where
       go : (k : ℕ) → behind ns o ≡ k
@@ -251,10 +252,13 @@ flaw-one : (k q p : ℕ) (f : Flaw) → badIn (ifAny k k (flawNumber f)) (ifAny 
 flaw-one zero q p f = bad-is (flawNumber f) p f refl
 flaw-one (suc k) q p f = refl
 
-fault-one : (k q n p : ℕ) → 1 ≤ n → faultAt (ifAny k k n) (ifAny k q p) ≡ orElse (faultAt k q) (some (fault n p))
-fault-one zero q zero p l = absurd (not-suc-le-zero l)
-fault-one zero q (suc n) p l = refl
-fault-one (suc k) q n p l = refl
+pub fault-one : (k q n p : ℕ) → faultAt (ifAny k k n) (ifAny k q p) ≡ orElse (faultAt k q) (faultAt n p)
+fault-one zero q n p = refl
+fault-one (suc k) q n p = refl
+
+fault-some : (n p : ℕ) → 1 ≤ n → faultAt n p ≡ some (fault n p)
+fault-some zero p l = absurd (not-suc-le-zero l)
+fault-some (suc n) p l = refl
 
 -- the two numbers of a limit after one element more
 fewer-is : (k q p : ℕ) → limitAt (k - 1) (ifAny k p q) ≡ fewer k q p
@@ -269,25 +273,25 @@ module _ (ns : List ℕ) (h : length ns ≡ heardLength) where
   unfolding rowOf
   flaw-noted f p =
       row-noted ns 0 h (omega arith) (flawNumber f) p
-      ∙ (λ i. record { said = was .said; bad = flaw-one (behind ns 0) (behind ns 1) p f i; batches = was .batches; transactions = was .transactions; fault = was .fault })
+      ∙ (λ i. record { said = was .said; bad = flaw-one (behind ns 0) (behind ns 1) p f i; batches = was .batches; transactions = was .transactions; fault = was .fault; mixes = was .mixes })
 
   pub fault-noted : (n p : ℕ) → 1 ≤ n → rowOf (noted ns faultSlot n p) ≡ withFault (rowOf ns) (some (fault n p))
   unfolding rowOf
   fault-noted n p l =
       row-noted ns 6 h (omega arith) n p
-      ∙ (λ i. record { said = was .said; bad = was .bad; batches = was .batches; transactions = was .transactions; fault = fault-one (behind ns 6) (behind ns 7) n p l i })
+      ∙ (λ i. record { said = was .said; bad = was .bad; batches = was .batches; transactions = was .transactions; fault = (fault-one (behind ns 6) (behind ns 7) n p ∙ ap (orElse (was .fault)) (fault-some n p l)) i; mixes = was .mixes })
 
   pub batch-counted : (p : ℕ) → rowOf (counted ns batchesSlot p) ≡ withBatchCounted (rowOf ns) p
   unfolding rowOf
   batch-counted p =
       row-counted ns 2 h (omega arith) p
-      ∙ (λ i. record { said = was .said; bad = was .bad; batches = fewer-is (behind ns 2) (behind ns 3) p i; transactions = was .transactions; fault = was .fault })
+      ∙ (λ i. record { said = was .said; bad = was .bad; batches = fewer-is (behind ns 2) (behind ns 3) p i; transactions = was .transactions; fault = was .fault; mixes = was .mixes })
 
   pub transaction-counted : (p : ℕ) → rowOf (counted ns transactionsSlot p) ≡ withTransactionCounted (rowOf ns) p
   unfolding rowOf
   transaction-counted p =
       row-counted ns 4 h (omega arith) p
-      ∙ (λ i. record { said = was .said; bad = was .bad; batches = was .batches; transactions = fewer-is (behind ns 4) (behind ns 5) p i; fault = was .fault })
+      ∙ (λ i. record { said = was .said; bad = was .bad; batches = was .batches; transactions = fewer-is (behind ns 4) (behind ns 5) p i; fault = was .fault; mixes = was .mixes })
 
 -- ─── one number after the other ───
 
@@ -328,6 +332,7 @@ fresh-row slips rows = λ i. record {
   batches = record { left = 65; place = 0 };
   transactions = record { left = 2001; place = 0 };
   fault = none;
+  mixes = record { found = none; address = none; early = none; late = none };
   tally = freshTally;
   slips = slips;
   rows = rows;

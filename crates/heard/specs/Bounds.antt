@@ -26,11 +26,12 @@ pub record Sane (t : Told) : Type 0 where
   pub scheme : t .part ≡ part.scheme → worth t ≤ 3
   pub sequence : t .part ≡ part.sequence → worth t ≤ 3
 
--- a batch and a transaction hold elements; an amount, a scheme and a sequence are judged as such
+-- a batch, a transaction and an address hold elements; an amount, a scheme and a sequence are judged as such
 pub record Fit (e : Event) : Type 0 where
   pub small : e .part < partsEnd
   pub batch : e .part ≡ part.batch → e .kind ≡ Holds
   pub transaction : e .part ≡ part.transaction → e .kind ≡ Holds
+  pub address : e .part ≡ part.address → e .kind ≡ Holds
   pub amount : e .part ≡ part.amount → e .kind ≡ Text Amount
   pub scheme : e .part ≡ part.scheme → e .kind ≡ Text Scheme
   pub sequence : e .part ≡ part.sequence → e .kind ≡ Text Sequence

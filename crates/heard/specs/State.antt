@@ -3,8 +3,10 @@
 --   when z p                    p where the test z holds; else none
 --   Word, nothing, word t       what a part last said: 1, its text's start and length, and the number that it states; all 0 where it said nothing
 --   Limit, limitStep n l t      how many elements of the part n may still come before one is too many, and the place of the last one
---   State                       what was said, part by part; first faults; the tally; the two lent tables
---   settled, shut st            the open transaction added; the open batch closed too
+--   Mixes, addressIn said       what was heard of addresses; what stands in the one that is open
+--   openedMixes, judgedMixes, endedMixes, begunMixes   an address begins; the open one is judged; the open batch ended, and another begun
+--   State                       what was said, part by part; first faults; addresses; the tally; the two lent tables
+--   settled, shut st            the open transaction added, and the open address judged; the open batch closed too
 --   added, began, saying        the three things that an event does: it begins a transaction, or a batch, and its text says something
 --   step st t                   what was heard with the event t
 use Prim.Native.Nat.{ℕ, zero, suc, _+_, _-_, _*_}
@@ -26,8 +28,10 @@ use Rattle.profile.specs.declared.Batch.{Batch}
 use Rattle.profile.specs.declared.Tally.{Tally}
 use Rattle.tree.specs.Parts as part
 use Rattle.message.specs.declared.Told.{Told}
+use Rattle.message.specs.declared.Address.{Address}
 use Rattle.message.specs.Message.{is, worth}
-use Rattle.message.specs.Verdict.{at, orElse, broken}
+use Rattle.message.specs.Addresses.{unstructuredEnds, goodMix}
+use Rattle.message.specs.Verdict.{at, orElse, broken, unlessAt}
 
 abbrev pub ifTrue : {A : Type 0} → Bool → A → A → A
 ifTrue true a b = a
@@ -94,7 +98,49 @@ faultIn b p q = orElse (at 6 (when (countDiffers (b .«declared_count») (b .cou
 abbrev pub faultFrom : (ℕ → Word) → Tally → Option Fault
 faultFrom said y = faultIn (batchFrom said y) (said part.batchCount .start) (said part.batchSum .start)
 
--- ─── 4. The rows ───
+-- ─── 4. Addresses ───
+
+-- the first bad mix of the batches that ended; the place of the address that is open; the first bad mix of the open batch, at an early collection date and at a late one
+pub record Mixes : Type 0 where
+  pub found : Option Fault
+  pub address : Option ℕ
+  pub early : Option Fault
+  pub late : Option Fault
+
+abbrev pub marked : Word → Bool
+marked w = ifAny (w .mark) true false
+
+abbrev pub addressIn : (ℕ → Word) → Address
+addressIn said = record {
+  detail = marked (said part.addressDetail);
+  town = marked (said part.town);
+  country = marked (said part.country);
+  line = marked (said part.addressLine);
+}
+
+-- the open address, where its mix is bad
+abbrev pub mixIn : Bool → (ℕ → Word) → Option ℕ → Option Fault
+mixIn early said o = at 59 (unlessAt (goodMix early (addressIn said)) o)
+
+-- an address begins
+abbrev pub openedMixes : Mixes → Told → Mixes
+openedMixes m t = record { found = m .found; address = ifTrue (is part.address t) (some (t .place)) (m .address); early = m .early; late = m .late }
+
+abbrev pub judgedMixes : (ℕ → Word) → Mixes → Mixes
+judgedMixes said m = record {
+  found = m .found;
+  address = none;
+  early = orElse (m .early) (mixIn true said (m .address));
+  late = orElse (m .late) (mixIn false said (m .address));
+}
+
+abbrev pub endedMixes : ℕ → Mixes → Mixes
+endedMixes date m = record { found = orElse (m .found) (ifTrue (ltb date unstructuredEnds) (m .early) (m .late)); address = m .address; early = m .early; late = m .late }
+
+abbrev pub begunMixes : Mixes → Mixes
+begunMixes m = record { found = m .found; address = m .address; early = none; late = none }
+
+-- ─── 5. The rows ───
 
 -- n numbers put at a place, where there is room
 abbrev pub putIfRoom : List ℕ → ℕ → ℕ → List ℕ → List ℕ
@@ -116,7 +162,7 @@ rowNumbers said y =
     y .transactions .0 ∷ y .count .0 ∷ y .sum .0
     ∷ (gather (λ p. said p .mark ∷ said p .worth ∷ []) declaredParts ++ ((4 * said part.scheme .worth + said part.sequence .worth) ∷ []))
 
--- ─── 5. The state ───
+-- ─── 6. The state ───
 
 pub record State : Type 0 where
   pub said : ℕ → Word
@@ -124,6 +170,7 @@ pub record State : Type 0 where
   pub batches : Limit
   pub transactions : Limit
   pub fault : Option Fault
+  pub mixes : Mixes
   pub tally : Tally
   pub slips : List ℕ
   pub rows : List ℕ
@@ -135,6 +182,7 @@ fresh slips rows = record {
   batches = record { left = suc mostBatches; place = 0 };
   transactions = record { left = suc mostTransactions; place = 0 };
   fault = none;
+  mixes = record { found = none; address = none; early = none; late = none };
   tally = freshTally;
   slips = slips;
   rows = rows;
@@ -158,6 +206,7 @@ settled st = record {
   batches = st .batches;
   transactions = st .transactions;
   fault = st .fault;
+  mixes = judgedMixes (st .said) (st .mixes);
   tally = settledTally st;
   slips = settledSlips st;
   rows = st .rows;
@@ -174,6 +223,7 @@ shut st =
       batches = st .batches;
       transactions = st .transactions;
       fault = ifAny k (orElse (st .fault) (faultFrom (st .said) y)) (st .fault);
+      mixes = let m = judgedMixes (st .said) (st .mixes) in ifAny k (endedMixes (st .said part.collectionDate .worth) m) m;
       tally = closed y;
       slips = settledSlips st;
       rows = ifAny k (putIfRoom (st .rows) (8 * (k - 1)) 8 (rowNumbers (st .said) y)) (st .rows);
@@ -189,6 +239,7 @@ added st =
       batches = a .batches;
       transactions = a .transactions;
       fault = a .fault;
+      mixes = a .mixes;
       tally = a .tally;
       slips = a .slips;
       rows = a .rows;
@@ -204,6 +255,7 @@ began st =
       batches = a .batches;
       transactions = a .transactions;
       fault = a .fault;
+      mixes = begunMixes (a .mixes);
       tally = begun (a .tally);
       slips = a .slips;
       rows = a .rows;
@@ -217,6 +269,7 @@ saying st t = record {
   batches = limitStep part.batch (st .batches) t;
   transactions = limitStep part.transaction (st .transactions) t;
   fault = st .fault;
+  mixes = openedMixes (st .mixes) t;
   tally = st .tally;
   slips = st .slips;
   rows = st .rows;

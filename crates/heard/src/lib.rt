@@ -1,5 +1,9 @@
 // What was heard of a message so far. Definitions of what it must hold: specs/.
+//
+//   row      the row of numbers, store by store
+//   mixes    what the row has of addresses
 
+pub mod mixes;
 pub mod row;
 
 // ─── parts, and places in the row ───
@@ -22,6 +26,8 @@ impl Part {
 
     pub const SEQUENCE: usize = 7;
 
+    pub const COLLECTION_DATE: usize = 8;
+
     pub const TRANSACTION: usize = 9;
 
     pub const END_TO_END: usize = 10;
@@ -36,8 +42,18 @@ impl Part {
 
     pub const REMITTANCE: usize = 17;
 
+    pub const ADDRESS: usize = 18;
+
+    pub const ADDRESS_DETAIL: usize = 19;
+
+    pub const TOWN: usize = 20;
+
+    pub const COUNTRY: usize = 21;
+
+    pub const ADDRESS_LINE: usize = 22;
+
     // After the last.
-    pub const END: usize = 18;
+    pub const END: usize = 23;
 }
 
 // The numbers of a part, from its first on.
@@ -60,7 +76,7 @@ impl Word {
     pub const END: usize = 4;
 }
 
-// Where the row has the first faults, two numbers for each.
+// Where the row has the first faults, and the address that is open: two numbers for each.
 pub struct Slot(pub usize);
 
 impl Slot {
@@ -76,5 +92,17 @@ impl Slot {
     // The first batch whose declared count or sum differs: 6 or 7, and the start of that text.
     pub const FAULT: usize = Slot::TRANSACTIONS + 2;
 
-    pub const END: usize = Slot::FAULT + 2;
+    // The first address of the batches that ended whose mix is bad: 59, and its place.
+    pub const MIX: usize = Slot::FAULT + 2;
+
+    // The address that is open: 1 where there is one, and its place.
+    pub const ADDRESS: usize = Slot::MIX + 2;
+
+    // The first address of the open batch whose mix is bad where its collection date is early, before Address::UNSTRUCTURED_ENDS: as above.
+    pub const EARLY: usize = Slot::ADDRESS + 2;
+
+    // The same where it is late.
+    pub const LATE: usize = Slot::EARLY + 2;
+
+    pub const END: usize = Slot::LATE + 2;
 }

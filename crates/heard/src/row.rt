@@ -1,4 +1,4 @@
-// The row of numbers in which what was heard is lent from event to event: four for each part, and after them two for each first fault.
+// The row of numbers in which what was heard is lent from event to event: four for each part, and after them two for each first fault and for the address that is open.
 ghost use mathlib.Core.Path.{_≡_};
 ghost use mathlib.Core.List.{List, [], _∷_};
 ghost use mathlib.Core.Option.{some};
@@ -19,7 +19,7 @@ use profile::NumberOfTransactions;
 use profile::Profile;
 
 // Nothing was heard.
-pub fn fresh() -> [u64; 80]
+pub fn fresh() -> [u64; 108]
     ensures { λ r. ⌜ ((slips rows : List ℕ) → stateOf r freshTally slips rows ≡ fresh slips rows) ⌝ }
 {
     let mut heard = [0u64; Slot::END];
@@ -95,7 +95,7 @@ pub fn forget(heard: &mut [u64], from: usize)
 // ─── first faults ───
 
 // The number and the place of a fault, in the two numbers at `slot`, where none stands there yet.
-fn note(heard: &mut [u64], slot: usize, number: u64, place: u64)
+pub fn note(heard: &mut [u64], slot: usize, number: u64, place: u64)
     requires { ⌜ (length (now heard) ≡ heardLength) × (slot + 1 < heardLength) ⌝ }
     ensures { λ _. ⌜ now (heard .exit) ≡ noted (now (heard .entry)) slot number place ⌝ }
 {

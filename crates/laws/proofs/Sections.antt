@@ -1,12 +1,15 @@
 -- THE LAWS OF `is`, `before`, `parts`, `allOf`, `lastOr` AND `the`.
 --   map-before, map-parts, map-all, map-the   what is found among elements that are made of others
 --   length-all                                there are as many elements of a part as its parts
+--   all-before, all-parts                     what holds of each element holds of each of a section
+--   the-none                                  where no element is of a part, there is none
 use Prim.Native.Nat.{ℕ, suc}
 use mathlib.Core.Bool.{Bool, true, false}
 use mathlib.Core.List.{List, [], _∷_, map}
 use mathlib.Core.Option.{Option, none, some}
 use mathlib.Core.Path.{_≡_, refl, ap, ap₂, _∙_}
 use lib.ListN.{length}
+use Rattle.laws.specs.Lists.{All}
 use Rattle.laws.specs.Sections.{is, before, parts, allOf, lastOr, the}
 
 -- h makes an element of another, and keeps its part
@@ -64,3 +67,28 @@ module _ {A : Type 0} (part : A → ℕ) (n : ℕ) where
           ≡ length {A = List A} (elim z [ true ↦ (x ∷ before part n xs) ∷ parts part n xs | false ↦ parts part n xs ])
       go true e = ap suc e
       go false e = e
+
+module _ {A : Type 0} (part : A → ℕ) (n : ℕ) where
+  module _ (P : A → Type 0) where
+    pub all-before : (xs : List A) → All P xs → All P (before part n xs)
+    all-before [] h = tt
+    all-before (x ∷ xs) h = go (is part n x) (all-before xs (h .1))
+      where
+        go : (z : Bool) → All P (before part n xs) → All P (elim z [ true ↦ [] | false ↦ x ∷ before part n xs ])
+        go true b = tt
+        go false b = (h .0, b)
+
+    pub all-parts : (xs : List A) → All P xs → All (All P) (parts part n xs)
+    all-parts [] h = tt
+    all-parts (x ∷ xs) h = go (is part n x) (all-parts xs (h .1))
+      where
+        go : (z : Bool) → All (All P) (parts part n xs) → All (All P) (elim z [ true ↦ (x ∷ before part n xs) ∷ parts part n xs | false ↦ parts part n xs ])
+        go true e = ((h .0, all-before xs (h .1)), e)
+        go false e = e
+
+  all-none : (xs : List A) → All (λ x. is part n x ≡ false) xs → allOf part n xs ≡ []
+  all-none [] h = refl
+  all-none (x ∷ xs) h = ap (λ (z : Bool). elim z [ true ↦ x ∷ allOf part n xs | false ↦ allOf part n xs ]) (h .0) ∙ all-none xs (h .1)
+
+  pub the-none : (xs : List A) → All (λ x. is part n x ≡ false) xs → the part n xs ≡ none
+  the-none xs h = ap (lastOr none) (all-none xs h)

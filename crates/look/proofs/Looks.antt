@@ -1,7 +1,7 @@
 -- WHAT A LOOK AT A TEXT HAS SEEN, in plain variables.
 --   ranked-byte              a byte of a rank, as the table has it
 --   plain-text               the bytes of a rank, up to a tag, are the text
---   seen-identifier, seen-name, seen-remittance   such a text is good by its rule
+--   seen-identifier, seen-plain   such a text is good by its rule
 --   look-told                what holds where a look says good
 use Prim.Native.Nat.{ℕ, suc, _+_, _-_, _<_, _≤_}
 use native.Mathlib.Nat.{not-suc-le-zero, le-of-suc-le-suc}
@@ -22,7 +22,7 @@ use Rattle.text.specs.Rules.{plain, identifier}
 use Rattle.text.specs.Rules as rules
 use Rattle.text.specs.declared.Judged.the-variants as judged
 use Rattle.text.specs.declared.Rule.{Rule}
-use Rattle.text.specs.declared.Rule.the-variants.{Identifier, Name, Remittance}
+use Rattle.text.specs.declared.Rule.the-variants.{Identifier}
 use Rattle.text.proofs.Musts.{between-in}
 use Rattle.tree.specs.Form.{inText}
 use Rattle.scan.proofs.Scans.{run-in}
@@ -97,12 +97,10 @@ module _ (s : Bytes) (at : ℕ) (room : at ≤ length s) (rule : Rule) (r : Look
   pub seen-identifier : rule ≡ Identifier → PlainLook 2 35 s at r → GoodLook rule s at r
   seen-identifier e = subst⁻¹ (λ (q : Rule). PlainLook 2 35 s at r → GoodLook q s at r) e (seen Identifier 2 35 s at (λ end. identifier-good s at end room) r)
 
-  pub seen-name : rule ≡ Name → PlainLook 1 70 s at r → GoodLook rule s at r
-  seen-name e = subst⁻¹ (λ (q : Rule). PlainLook 1 70 s at r → GoodLook q s at r) e (seen Name 1 70 s at (λ end w. plain-good 1 70 s at end room w (omega arith)) r)
-
-  pub seen-remittance : rule ≡ Remittance → PlainLook 1 140 s at r → GoodLook rule s at r
-  seen-remittance e =
-      subst⁻¹ (λ (q : Rule). PlainLook 1 140 s at r → GoodLook q s at r) e (seen Remittance 1 140 s at (λ end w. plain-good 1 140 s at end room w (omega arith)) r)
+  -- of a plain text whose rule is its length
+  pub seen-plain : (q : Rule) (longest : ℕ) → ((x : Bytes) → rules.judged q x ≡ plain longest x) → rule ≡ q → PlainLook 1 longest s at r → GoodLook rule s at r
+  seen-plain q longest p e =
+      subst⁻¹ (λ (q : Rule). PlainLook 1 longest s at r → GoodLook q s at r) e (seen q 1 longest s at (λ end w. p (textTo s at end) ∙ plain-good 1 longest s at end room w (omega arith)) r)
 
 -- what holds where a look says good
 pub look-told : (rule : Rule) (s : Bytes) (at end : ℕ) (r : Look) → r ≡ Good end → GoodLook rule s at r → (end ≡ textEnd s at) × (rules.judged rule (textTo s at end) ≡ judged.Good 0)

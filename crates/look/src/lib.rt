@@ -95,6 +95,9 @@ pub fn look_at(rule: Rule, s: &[u8], t: &[u8], at: usize) -> Look
         Rule::Identifier => look_plain(s, t, at, 2, 35),
         Rule::Name => look_plain(s, t, at, 1, 70),
         Rule::Remittance => look_plain(s, t, at, 1, 140),
+        Rule::AddressLine => look_plain(s, t, at, 1, 70),
+        Rule::AddressCode => look_plain(s, t, at, 1, 16),
+        Rule::Town => look_plain(s, t, at, 1, 35),
         _ => Look::Unsure,
     }
 }

@@ -59,7 +59,7 @@ allOf = sections.allOf (λ t. t .part)
 abbrev pub lastOr : Option Told → List Told → Option Told
 lastOr = sections.lastOr
 
--- no tree of the profile has several at the places asked for
+-- no tree of the profile has several at the places asked for, but for the details and the lines of an address: of those it is only asked whether there are any
 abbrev pub the : ℕ → List Told → Option Told
 the = sections.the (λ t. t .part)
 

@@ -17,6 +17,7 @@ use Rattle.text.specs.declared.Judged.{Judged}
 use Rattle.text.specs.declared.Judged.the-variants.{Good, Bad}
 use Rattle.tree.specs.Parts as part
 use Rattle.message.specs.declared.Told.{Told}
+use Rattle.message.specs.Addresses.{Party, partiesOf, mixOf}
 use Rattle.message.specs.Message.{Transaction, Batch, allOf, the, batchesOf, worth, worthOf, centsOf, exactCount, exactSum}
 
 -- ─── 1. First faults ───
@@ -58,6 +59,20 @@ abbrev pub firstBroken : List Told → Option Fault
 firstBroken [] = none
 firstBroken (t ∷ ts) = orElse (broken (t .judged) (t .start)) (firstBroken ts)
 
+-- where an element stands, if there is one
+abbrev pub placeIn : Option Told → Option ℕ
+placeIn none = none
+placeIn (some t) = some (t .place)
+
+-- nothing where a test holds, else what was found
+abbrev pub unlessAt : Bool → Option ℕ → Option ℕ
+unlessAt true o = none
+unlessAt false o = o
+
+-- 59: where the mix of a party's address is bad, the `<` of its PstlAdr
+abbrev pub mixFault : Party → Option Fault
+mixFault x = at 59 (unlessAt (mixOf x) (placeIn (the part.address (x .said))))
+
 -- the start of a declaration that states another number; an absent one states none
 abbrev pub differs : Option Told → ℕ → Option ℕ
 differs none n = none
@@ -77,6 +92,7 @@ stages r ts =
     at 3 (placeAfter mostBatches (allOf part.batch ts))
     ∷ at 4 (placeAfter mostTransactions (allOf part.transaction ts))
     ∷ firstBroken ts  -- 51 to 58
+    ∷ first (map mixFault (partiesOf ts))  -- 59
     ∷ first (map batchFault bs)  -- 6, 7
     ∷ at 8 (differs (the part.messageCount ts) (total exactCount bs))
     ∷ at 9 (differs (the part.messageSum ts) (total exactSum bs))

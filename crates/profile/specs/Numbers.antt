@@ -14,8 +14,9 @@ Between a b n = (a ≤ n) × (n ≤ b)
 abbrev pub TextNumber : ℕ → Type 0
 TextNumber n = Between 51 58 n
 
+-- 59, the mix of an address, stands after the texts (request 3)
 abbrev pub BeforeTotals : ℕ → Type 0
-BeforeTotals n = Between 1 4 n ⊎ TextNumber n
+BeforeTotals n = Between 1 4 n ⊎ Between 51 59 n
 
 abbrev pub CheckNumber : ℕ → Type 0
 CheckNumber n = BeforeTotals n ⊎ Between 6 11 n

@@ -7,7 +7,7 @@ use Prim.Native.Nat.{ℕ, _+_}
 use Rattle.profile.specs.declared.Flaw.{Flaw}
 use Rattle.profile.specs.declared.Flaw.the-variants.{Length, Letter, Slash, Number, Date, Code, Shape, CheckDigits}
 use Rattle.profile.specs.declared.Refusal.{Refusal}
-use Rattle.profile.specs.declared.Refusal.the-variants.{TooLong, NotOfTheForm, TooManyBatches, TooManyTransactions, Text, BatchCount, BatchSum, MessageCount, MessageSum, SlipsTooShort, BatchesTooShort}
+use Rattle.profile.specs.declared.Refusal.the-variants.{TooLong, NotOfTheForm, TooManyBatches, TooManyTransactions, Text, AddressMix, BatchCount, BatchSum, MessageCount, MessageSum, SlipsTooShort, BatchesTooShort}
 use Rattle.profile.specs.declared.ListRefusal.{ListRefusal}
 use Rattle.profile.specs.declared.ListRefusal.the-variants.{TooLong as ListTooLong, Ceiling, NotAFrame, NoCollection, TooManyCollections, Value, TooManyBatches as BatchesNeeded, OutputTooShort}
 use Rattle.profile.specs.Limits.{mostBytes, mostCollections}
@@ -43,6 +43,7 @@ faultOf (NotOfTheForm p) = fault 2 p
 faultOf (TooManyBatches p) = fault 3 p
 faultOf (TooManyTransactions p) = fault 4 p
 faultOf (Text f p) = fault (flawNumber f) p
+faultOf (AddressMix p) = fault 59 p  -- request 3
 faultOf (BatchCount p) = fault 6 p
 faultOf (BatchSum p) = fault 7 p
 faultOf (MessageCount p) = fault 8 p

@@ -281,6 +281,7 @@ pub enum Refusal {
     TooManyBatches(usize),
     TooManyTransactions(usize),
     Text(Flaw, usize),
+    AddressMix(usize),
     BatchCount(usize),
     BatchSum(usize),
     MessageCount(usize),

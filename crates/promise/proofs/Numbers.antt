@@ -1,7 +1,7 @@
 -- THE NUMBER OF A REFUSAL is one of the check's; and a message belongs to the profile exactly where it meets no refusal that stands before 6.
 --   Among N o            a fault that was found has one of the numbers N
 --   passed               a fault that is not of a stage comes from the stages after it
---   three, four, rest    the stages 3 and 4, and those from 6 on; rest-among: their numbers
+--   three, four, mixes, rest   the stages 3, 4 and 59, and those from 6 on; mixes-among, rest-among: their numbers
 --   found                what a refused message's stages find
 --   Way                  the three ways in which a check ends
 --   refusal-number       the number of a refusal is one of the check's
@@ -29,7 +29,8 @@ use Rattle.tree.specs.Pain008.{Document}
 use Rattle.tree.specs.Parts as part
 use Rattle.message.specs.declared.Told.{Told}
 use Rattle.message.specs.Message.{Batch, allOf, the, batchesOf, exactCount, exactSum}
-use Rattle.message.specs.Verdict.{Room, Verdict, Verdict.refused, verdict, at, first, orElse, unless, placeAfter, broken, firstBroken, differs, batchFault, stages}
+use Rattle.message.specs.Addresses.{Party, partiesOf, mixOf}
+use Rattle.message.specs.Verdict.{Room, Verdict, Verdict.refused, verdict, at, first, orElse, unless, placeAfter, broken, firstBroken, placeIn, unlessAt, mixFault, differs, batchFault, stages}
 use Rattle.promise.specs.Check.{saidBy, roomOf, Long, OutOfForm, ByStages, Checks}
 use Rattle.promise.specs.Demand2.{InProfile, Belongs}
 use Rattle.promise.proofs.Accepts.{Passes, profile-passes, in-profile}
@@ -59,13 +60,17 @@ module _ (N : ℕ → Type 0) where
   first-among [] h = none-among
   first-among (o ∷ l) h = or-among o (first l) (h .0) (first-among l (h .1))
 
-  broken-among : (ts : List Told) → ((f : Flaw) → N (flawNumber f)) → Among N (firstBroken ts)
+  pub broken-among : (ts : List Told) → ((f : Flaw) → N (flawNumber f)) → Among N (firstBroken ts)
   broken-among [] a = none-among
   broken-among (t ∷ ts) a = or-among (broken (t .judged) (t .start)) (firstBroken ts) (go (t .judged)) (broken-among ts a)
     where
       go : (j : Judged) → Among N (broken j (t .start))
       go (Good n) = none-among
       go (Bad f) = some-among (fault (flawNumber f) (t .start)) (a f)
+
+  pub parties-among : (xs : List Party) → N 59 → Among N (first (map mixFault xs))
+  parties-among [] a = none-among
+  parties-among (x ∷ xs) a = or-among (mixFault x) (first (map mixFault xs)) (at-among 59 (unlessAt (mixOf x) (placeIn (the part.address (x .said)))) a) (parties-among xs a)
 
   batches-among : (bs : List Batch) → N 6 → N 7 → Among N (first (map batchFault bs))
   batches-among [] a b = none-among
@@ -98,8 +103,11 @@ module _ (r : Room) (ts : List Told) where
   abbrev pub four : Option ℕ
   four = placeAfter mostTransactions (allOf part.transaction ts)
 
+  abbrev pub mixes : Option Fault
+  mixes = first (map mixFault (partiesOf ts))
+
   abbrev pub rest : Option Fault
-  rest = first (drop 3 (stages r ts))
+  rest = first (drop 4 (stages r ts))
 
   pub rest-among : (N : ℕ → Type 0) → ((n : ℕ) → Between 6 11 n → N n) → Among N rest
   rest-among N h =
@@ -119,7 +127,7 @@ module _ (r : Room) (ts : List Told) where
         ),
       )
 
-  -- 3, 4 and the texts, whose faults have the numbers N
+  -- 3, 4, the texts and 59, whose faults have the numbers N
   module _ (N : ℕ → Type 0) (h : (n : ℕ) → BeforeTotals n → N n) where
     three-among : Among N (at 3 three)
     three-among = at-among N 3 three (h 3 (inl (omega arith, omega arith)))
@@ -128,25 +136,29 @@ module _ (r : Room) (ts : List Told) where
     four-among = at-among N 4 four (h 4 (inl (omega arith, omega arith)))
 
     texts-among : Among N (firstBroken ts)
-    texts-among = broken-among N ts (λ f. h (flawNumber f) (inr (flaw-number f)))
+    texts-among = broken-among N ts (λ f. h (flawNumber f) (inr (flaw-number f .0, omega (arith, flaw-number f))))
+
+    mixes-among : Among N mixes
+    mixes-among = parties-among N (partiesOf ts) (h 59 (inr (omega arith, omega arith)))
 
   stages-among : Among CheckNumber (first (stages r ts))
   stages-among =
-      or-among CheckNumber (at 3 three) (orElse (at 4 four) (orElse (firstBroken ts) rest)) (three-among CheckNumber (λ n. inl))
-      (or-among CheckNumber (at 4 four) (orElse (firstBroken ts) rest) (four-among CheckNumber (λ n. inl))
-      (or-among CheckNumber (firstBroken ts) rest (texts-among CheckNumber (λ n. inl)) (rest-among CheckNumber (λ n. inr))))
+      or-among CheckNumber (at 3 three) (orElse (at 4 four) (orElse (firstBroken ts) (orElse mixes rest))) (three-among CheckNumber (λ n. inl))
+      (or-among CheckNumber (at 4 four) (orElse (firstBroken ts) (orElse mixes rest)) (four-among CheckNumber (λ n. inl))
+      (or-among CheckNumber (firstBroken ts) (orElse mixes rest) (texts-among CheckNumber (λ n. inl))
+      (or-among CheckNumber mixes rest (mixes-among CheckNumber (λ n. inl)) (rest-among CheckNumber (λ n. inr)))))
 
   profile-late : InProfile ts → Among (Between 6 11) (first (stages r ts))
-  profile-late p = let q = profile-passes ts p in rw (q .batches, q .transactions, q .texts) (rest-among (Between 6 11) (λ n h. h))
+  profile-late p = let q = profile-passes ts p in rw (q .batches, q .transactions, q .texts, q .mixes) (rest-among (Between 6 11) (λ n h. h))
 
   profile-early : Late (first (stages r ts)) → Passes ts
   profile-early h =
-      let x : (at 3 three ≡ none) × Late (orElse (at 4 four) (orElse (firstBroken ts) rest)) =
-      early (at 3 three) (orElse (at 4 four) (orElse (firstBroken ts) rest)) (three-among BeforeTotals (λ n h. h)) h
-      in
-      let y : (at 4 four ≡ none) × Late (orElse (firstBroken ts) rest) = early (at 4 four) (orElse (firstBroken ts) rest) (four-among BeforeTotals (λ n h. h)) (x .1) in
-      let z : (firstBroken ts ≡ none) × Late rest = early (firstBroken ts) rest (texts-among BeforeTotals (λ n h. h)) (y .1) in
-      record { batches = x .0; transactions = y .0; texts = z .0 }
+      let after : Option Fault = orElse (firstBroken ts) (orElse mixes rest) in
+      let x : (at 3 three ≡ none) × Late (orElse (at 4 four) after) = early (at 3 three) (orElse (at 4 four) after) (three-among BeforeTotals (λ n h. h)) h in
+      let y : (at 4 four ≡ none) × Late after = early (at 4 four) after (four-among BeforeTotals (λ n h. h)) (x .1) in
+      let z : (firstBroken ts ≡ none) × Late (orElse mixes rest) = early (firstBroken ts) (orElse mixes rest) (texts-among BeforeTotals (λ n h. h)) (y .1) in
+      let w : (mixes ≡ none) × Late rest = early mixes rest (mixes-among BeforeTotals (λ n h. h)) (z .1) in
+      record { batches = x .0; transactions = y .0; texts = z .0; mixes = w .0 }
 
 -- ─── 3. The theorems ───
 

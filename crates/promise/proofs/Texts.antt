@@ -24,12 +24,13 @@ use Rattle.tree.specs.Pain008.{Document}
 use Rattle.tree.specs.Parts as part
 use Rattle.message.specs.declared.Told.{Told}
 use Rattle.message.specs.Message.{allOf, batchesOf}
+use Rattle.message.specs.Addresses.{partiesOf}
 use Rattle.message.specs.Verdict.{Room, Verdict, Verdict.refused, at, first, orElse, broken, firstBroken, stages, totalsOf}
 use Rattle.promise.specs.Check.{saidBy, roomOf, Checks}
 use Rattle.promise.specs.Texts.{BreaksAt, TextBreaks}
 use Rattle.promise.proofs.Accepts.{after-within, within-after, at-none, at-is-none}
 use Rattle.promise.proofs.Outcome.{same-said}
-use Rattle.promise.proofs.Numbers.{at-among, passed, three, four, rest, rest-among, Way, found, found-refused}
+use Rattle.promise.proofs.Numbers.{at-among, parties-among, passed, three, four, mixes, rest, rest-among, Way, found, found-refused}
 
 -- ─── the stage of the texts ───
 
@@ -68,13 +69,16 @@ module _ (r : Room) (ts : List Told) where
   -- 3 and 4 find nothing, and the texts do
   found-text : (f : Fault) → TextNumber (f .number) → first (stages r ts) ≡ some f → (at 3 (three r ts) ≡ none) × ((at 4 (four r ts) ≡ none) × (firstBroken ts ≡ some f))
   found-text f n e =
-      let texts : Option Fault = orElse (firstBroken ts) (rest r ts) in
+      let texts : Option Fault = orElse (firstBroken ts) (orElse (mixes r ts) (rest r ts)) in
       let x = passed (λ k. k ≡ 3) (at 3 (three r ts)) (orElse (at 4 (four r ts)) texts) f (at-among (λ k. k ≡ 3) 3 (three r ts) refl) e (λ z. omega arith) in
       let y = passed (λ k. k ≡ 4) (at 4 (four r ts)) texts f (at-among (λ k. k ≡ 4) 4 (four r ts) refl) (x .1) (λ z. omega arith) in
       (x .0, (y .0, go (firstBroken ts) (y .1)))
     where
-      go : (o : Option Fault) → orElse o (rest r ts) ≡ some f → o ≡ some f
-      go none e = let h = rest-among r ts (λ k. k ≤ 11) (λ k a. a .1) f e in absurd (omega arith)
+      go : (o : Option Fault) → orElse o (orElse (mixes r ts) (rest r ts)) ≡ some f → o ≡ some f
+      go none e =
+          let x = passed (λ k. k ≡ 59) (mixes r ts) (rest r ts) f (parties-among (λ k. k ≡ 59) (partiesOf ts) refl) e (λ z. omega arith) in
+          let h = rest-among r ts (λ k. k ≤ 11) (λ k a. a .1) f (x .1) in
+          absurd (omega arith)
       go (some g) e = e
 
 module _ (s : Bytes) (slips rows : List ℕ) (v : Verdict) (a b : List ℕ) (c : Checks s slips rows v a b) (f : Flaw) (p : ℕ) where

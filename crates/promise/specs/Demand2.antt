@@ -1,7 +1,7 @@
 -- DEMAND 2, as definitions: what belongs to the profile, and that every declared count and sum equals the exact one. To be believed.
 --   Agrees d n      a declaration is absent, or states the number n
 --   AllAgree ts     every declared count and sum, per batch and overall, is the exact one
---   InProfile ts    what the message says meets none of 3, 4 and 51 to 58
+--   InProfile ts    what the message says meets none of 3, 4 and 51 to 59
 --   Enough r ts     the tables are long enough
 --   Belongs s m     the message s, read as m, belongs to the profile: it meets no refusal that stands before 6
 use Prim.Native.Nat.{ℕ, _*_, _≤_}
@@ -19,6 +19,7 @@ use Rattle.tree.specs.Pain008.{Document, declaration}
 use Rattle.tree.specs.Parts as part
 use Rattle.message.specs.declared.Told.{Told}
 use Rattle.message.specs.Message.{allOf, the, batchesOf, worth, exactCount, exactSum}
+use Rattle.message.specs.Addresses.{partiesOf, goodAddress}
 use Rattle.message.specs.Verdict.{Room}
 use Rattle.promise.specs.Check.{saidBy}
 
@@ -35,6 +36,7 @@ pub record InProfile (ts : List Told) : Type 0 where
   pub batches : length (allOf part.batch ts) ≤ mostBatches
   pub transactions : length (allOf part.transaction ts) ≤ mostTransactions
   pub texts : All (λ t. T (good (t .judged))) ts
+  pub addresses : All (λ x. T (goodAddress x)) (partiesOf ts)
 
 pub record Enough (r : Room) (ts : List Told) : Type 0 where
   pub slips : 12 * total exactCount (batchesOf ts) ≤ r .slips

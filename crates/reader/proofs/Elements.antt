@@ -58,6 +58,7 @@ module _ (t : Bytes) (e : ℕ) (k : Known t e) (rule : Rule) (q : kindOf (cell t
     small = fit 0 0 0 .small;
     batch = λ m. no-text rule (fit 0 0 0 .batch m);
     transaction = λ m. no-text rule (fit 0 0 0 .transaction m);
+    address = λ m. no-text rule (fit 0 0 0 .address m);
   }
 
   -- its opening tag stands at `at`, and its text was read

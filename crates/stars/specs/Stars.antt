@@ -8,7 +8,7 @@ use Prim.Native.Nat.{ℕ}
 use Prim.Native.String.{String}
 use mathlib.Core.Bool.{Bool, true, false, not, _&&_}
 use mathlib.Core.List.{List, [], _∷_, _++_, map}
-use lib.Dec.{T, eqb}
+use lib.Dec.{T, eqb, ltb}
 use Rattle.laws.specs.Bytes.{Bytes, ascii, same}
 use Rattle.laws.specs.Lists.{All, number}
 use Rattle.profile.specs.Refusals.{listNumberOf, listPlaceOf, listFieldOf}
@@ -19,6 +19,8 @@ use Rattle.tree.specs.Pain008.{Document, declaration}
 use Rattle.daylist.specs.declared.JudgedList.{JudgedList}
 use Rattle.daylist.specs.declared.JudgedList.the-variants.{Good, Refused}
 use Rattle.daylist.specs.Stages.{judgedList}
+use Rattle.message.specs.declared.Address.{Address}
+use Rattle.message.specs.Addresses.{unstructuredEnds, goodMix}
 use Rattle.bundle.specs.Bundle.{bundle}
 
 pub data Case : Type 0 where
@@ -33,7 +35,7 @@ Claim (obeys r s) = T (good (r (ascii s)))
 Claim (breaks r s) = T (not (good (r (ascii s))))
 Claim (test b) = T b
 
--- ─── what the tests of ★11 and ★12 compare ───
+-- ─── what the tests compare ───
 
 -- the items, from 1, of each batch
 abbrev pub itemsOf : ℕ → List ℕ → List (List ℕ)
@@ -60,6 +62,10 @@ withCents cents =
     ++ (ascii "0A323032362D31312D3130054645452031074D2D35353535350A323030392D30392D3031000E4D72204465626974657572204E31"
     ++ (ascii "16474232394E57424B36303136313333313932363831390A46616374757265204E31" ++ (10 ∷ []))))))))
     500)
+
+-- an empty PstlAdr
+abbrev pub emptyAddress : Address
+emptyAddress = record { detail = false; town = false; country = false; line = false }
 
 -- ─── the list ───
 
@@ -95,6 +101,9 @@ asked =
     (2, obeys creditorIdentifier "DE98ZZZ09999999999")
     ∷ (2, breaks creditorIdentifier "FR00ZZZ123456")
     ∷ (2, test (eqb (leaves (withoutBusinessCode (ascii "FR00ZZZ123456"))) 26))
+    ∷ (3, test (not (goodMix true emptyAddress)))
+    ∷ (3, test (ltb 2026_11_14 unstructuredEnds))
+    ∷ (3, test (not (ltb 2026_11_15 unstructuredEnds)))
     ∷ []
 
 -- THE CLAIM

@@ -3,6 +3,7 @@
 --   letter-set      of the 256 bytes a-z A-Z 0-9 / - ? : ( ) . , ' + and space are letters, 73 in all
 --   lengths         plain texts of the most bytes, of one more, whatever its letters, and of none; only an identifier looks at slashes, and spaces count
 --   identifiers, counts, sums, amounts, dates, times, ibans, bics, creditor-identifiers, printed-identifiers, codes
+--   address-lengths, address-letters, countries   the texts of an address
 use Prim.Native.Nat.{ℕ}
 use Prim.Native.String.{String}
 use mathlib.Core.Bool.{true, false, _||_, Bool·beq}
@@ -17,7 +18,7 @@ use Rattle.profile.specs.declared.Flaw.the-variants.{Length, Letter, Slash, Num
 use Rattle.text.specs.declared.Judged.{Judged}
 use Rattle.text.specs.declared.Judged.the-variants.{Good, Bad}
 use Rattle.text.specs.declared.Rule.{Rule}
-use Rattle.text.specs.declared.Rule.the-variants.{Identifier, Name, Remittance, Count, Sum, Amount, Date as Day, Time, Iban, Bic, CreditorIdentifier, Method, Booking, Sepa, Scheme, Sequence, Charges, NotProvided}
+use Rattle.text.specs.declared.Rule.the-variants.{Identifier, Name, Remittance, Count, Sum, Amount, Date as Day, Time, Iban, Bic, CreditorIdentifier, Method, Booking, Sepa, Scheme, Sequence, Charges, NotProvided, AddressLine, AddressCode, Town, Country}
 use Rattle.text.specs.Rules.{good, leaves, withoutBusinessCode, judged}
 
 infix 10 _judges_
@@ -45,6 +46,24 @@ pub identifiers : Identifier judges (
     ∷ ("/A_", Bad Letter) ∷ ("/23456789_123456789_123456789_12345", Bad Letter) ∷ ("_23456789_123456789_123456789_12345/", Bad Length)
     ∷ [])
 identifiers = refl
+
+pub address-lengths :
+    (judged AddressLine (replicate 70 47) ≡ Good 0) × (judged AddressLine (replicate 71 65) ≡ Bad Length)
+    × (judged AddressCode (replicate 16 47) ≡ Good 0) × (judged AddressCode (replicate 17 65) ≡ Bad Length)
+    × (judged Town (replicate 35 47) ≡ Good 0) × (judged Town (replicate 36 65) ≡ Bad Length)
+    × (judged AddressLine [] ≡ Bad Length) × (judged AddressCode [] ≡ Bad Length) × (judged Town [] ≡ Bad Length)
+address-lengths = (refl, refl, refl, refl, refl, refl, refl, refl, refl)
+
+pub address-letters :
+    (AddressLine judges (("12/3 Rue d'Aire", Good 0) ∷ ("//", Good 0) ∷ ("a_b", Bad Letter) ∷ []))
+    × (AddressCode judges (("SW1A 2AA", Good 0) ∷ ("7/9", Good 0) ∷ ("1&2", Bad Letter) ∷ ("12345678901234567", Bad Length) ∷ []))
+    × (Town judges (("Geneva", Good 0) ∷ ("Gen;ve", Bad Letter) ∷ []))
+address-letters = (refl, refl, refl)
+
+pub countries : Country judges (
+    ("CH", Good 0) ∷ ("AZ", Good 0) ∷ ("ch", Bad Shape) ∷ ("Ch", Bad Shape) ∷ ("C1", Bad Shape) ∷ ("C", Bad Shape) ∷ ("CHE", Bad Shape) ∷ ("", Bad Shape) ∷ (" CH", Bad Shape)
+    ∷ [])
+countries = refl
 
 -- ─── numbers ───
 

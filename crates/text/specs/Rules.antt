@@ -1,10 +1,11 @@
--- THE TEXT RULES of document 01, section "Texts", in its order, with the check digits of request 2. To be believed; definitions only.
+-- THE TEXT RULES of document 01, section "Texts", in its order, with the check digits of request 2 and the texts of an address of request 3. To be believed; definitions only.
 -- A rule judges a text: `Good n`, n being the number that the text states (0 where it states none), or `Bad` with the kind of the first test that fails.
 -- "For plain texts the tests go length in bytes, then letter set, then slashes; codes, numbers, dates and shapes have one test each, and the check digits follow the shape" (request 1).
 --   identifier, name, remittance         plain texts of the letter set
+--   addressLine, addressCode, town       those of an address
 --   count, sum, amount                   NbOfTxs states its number, CtrlSum and InstdAmt their cents
 --   date, time                           a date states year, month and day as the number yyyymmdd
---   iban, bic, creditorIdentifier        shapes; an IBAN and a creditor identifier have check digits too
+--   iban, bic, creditorIdentifier, country   shapes; an IBAN and a creditor identifier have check digits too
 --   leaves, withoutBusinessCode          what a number leaves on division by 97; what of a creditor identifier counts for it
 --   method .. notProvided                codes: each states its place, from 0, among the words listed
 --   judged r s                           the text s judged by the rule r
@@ -22,7 +23,7 @@ use Rattle.profile.specs.declared.Flaw.the-variants.{Length, Letter, Slash, Num
 use Rattle.text.specs.declared.Judged.{Judged}
 use Rattle.text.specs.declared.Judged.the-variants.{Good, Bad}
 use Rattle.text.specs.declared.Rule.{Rule}
-use Rattle.text.specs.declared.Rule.the-variants.{Identifier, Name, Remittance, Count, Sum, Amount, Date as Day, Time, Iban, Bic, CreditorIdentifier, Method, Booking, Sepa, Scheme, Sequence, Charges, NotProvided}
+use Rattle.text.specs.declared.Rule.the-variants.{Identifier, Name, Remittance, Count, Sum, Amount, Date as Day, Time, Iban, Bic, CreditorIdentifier, Method, Booking, Sepa, Scheme, Sequence, Charges, NotProvided, AddressLine, AddressCode, Town, Country}
 
 -- a test: where it fails, the text has the flaw f
 abbrev pub must : Bool → Flaw → Judged → Judged
@@ -53,6 +54,16 @@ name s = plain 70 s
 
 abbrev pub remittance : Bytes → Judged
 remittance s = plain 140 s
+
+-- "of the letter set, 1 to 70, 16, 16, 35 and, for lines, 70 characters" (request 3)
+abbrev pub addressLine : Bytes → Judged
+addressLine s = plain 70 s
+
+abbrev pub addressCode : Bytes → Judged
+addressCode s = plain 16 s
+
+abbrev pub town : Bytes → Judged
+town s = plain 35 s
 
 -- ─── numbers: 46 is the point, 48 the digit 0 ───
 
@@ -113,7 +124,7 @@ clock s = fits (ascii "TDD:DD:DD") s && (between 0 23 (valueAt 1 2 s) && (betwee
 abbrev pub time : Bytes → Judged
 time s = must (dated (take 10 s) && clock (drop 10 s)) Date (Good 0)
 
--- ─── IBAN, BICFI, creditor identifier ───
+-- ─── IBAN, BICFI, creditor identifier, country ───
 
 -- what the number leaves on division by 97, the first four moved to the end
 abbrev pub leaves : Bytes → ℕ
@@ -136,6 +147,10 @@ abbrev pub creditorIdentifier : Bytes → Judged
 creditorIdentifier s =
     must (fits (ascii "AADDNNN") (take 7 s) && (between 1 28 (length (drop 7 s)) && all capitalOrDigit (drop 7 s))) Shape
     (must (eqb (leaves (withoutBusinessCode s)) 1) CheckDigits (Good 0))
+
+-- "Ctry is two capitals" (request 3)
+abbrev pub country : Bytes → Judged
+country s = must (fits (ascii "AA") s) Shape (Good 0)
 
 -- ─── codes ───
 
@@ -189,3 +204,7 @@ judged Scheme s = scheme s
 judged Sequence s = sequence s
 judged Charges s = charges s
 judged NotProvided s = notProvided s
+judged AddressLine s = addressLine s
+judged AddressCode s = addressCode s
+judged Town s = town s
+judged Country s = country s

@@ -1,9 +1,9 @@
 // The text rules. Each judges a lent part of a message or a list, of any bytes and any length.
 //
-//   plain    identifiers, names, remittance
+//   plain    identifiers, names, remittance, the texts of an address
 //   number   counts, sums, amounts
 //   date     dates and times
-//   shape    IBAN, BICFI, creditor identifier
+//   shape    IBAN, BICFI, creditor identifier, country
 //   code     the fixed codes
 ghost use mathlib.Core.Path.{_≡_};
 ghost use Rattle.text.specs.Rules.{judged};
@@ -58,6 +58,14 @@ pub enum Rule {
     Charges,
     // a bank's Othr Id
     NotProvided,
+    // StrtNm, AdrLine
+    AddressLine,
+    // BldgNb, PstCd
+    AddressCode,
+    // TwnNm
+    Town,
+    // Ctry
+    Country,
 }
 
 // A text judged by a rule.
@@ -84,5 +92,9 @@ pub fn judge(rule: Rule, text: &[u8]) -> Judged
         Rule::Sequence => code::sequence(text),
         Rule::Charges => code::charges(text),
         Rule::NotProvided => code::not_provided(text),
+        Rule::AddressLine => plain::address_line(text),
+        Rule::AddressCode => plain::address_code(text),
+        Rule::Town => plain::town(text),
+        Rule::Country => shape::country(text),
     }
 }

@@ -1,6 +1,6 @@
 // Texts of the letter set: their length is tested first, then their letters, then the slashes of an identifier.
 ghost use mathlib.Core.Path.{_≡_};
-ghost use Rattle.text.specs.Rules.{plain, identifier, name, remittance};
+ghost use Rattle.text.specs.Rules.{plain, identifier, name, remittance, addressLine, addressCode, town};
 use crate::Judged;
 use profile::Flaw;
 
@@ -45,4 +45,25 @@ pub fn remittance(text: &[u8]) -> Judged
     ensures { λ r. ⌜ r ≡ remittance (now (text .entry)) ⌝ }
 {
     plain_text(text, 140)
+}
+
+// StrtNm, AdrLine: 1 to 70.
+pub fn address_line(text: &[u8]) -> Judged
+    ensures { λ r. ⌜ r ≡ addressLine (now (text .entry)) ⌝ }
+{
+    plain_text(text, 70)
+}
+
+// BldgNb, PstCd: 1 to 16.
+pub fn address_code(text: &[u8]) -> Judged
+    ensures { λ r. ⌜ r ≡ addressCode (now (text .entry)) ⌝ }
+{
+    plain_text(text, 16)
+}
+
+// TwnNm: 1 to 35.
+pub fn town(text: &[u8]) -> Judged
+    ensures { λ r. ⌜ r ≡ town (now (text .entry)) ⌝ }
+{
+    plain_text(text, 35)
 }

@@ -1,4 +1,4 @@
-// IBAN, BICFI and creditor identifier.
+// IBAN, BICFI, creditor identifier and country.
 ghost use Prim.Native.Nat.{_≤_};
 ghost use mathlib.Core.Bool.{true};
 ghost use mathlib.Core.List.{_++_};
@@ -8,7 +8,7 @@ ghost use lib.ListN.{length, take, drop};
 ghost use Rattle.laws.specs.Bytes.{all};
 ghost use Rattle.marks.specs.Classes.{of};
 ghost use Rattle.marks.specs.Marks.{letterOrDigit};
-ghost use Rattle.text.specs.Rules.{leaves, iban, bic, creditorIdentifier};
+ghost use Rattle.text.specs.Rules.{leaves, iban, bic, creditorIdentifier, country};
 ghost use Rattle.text.specs.Shapes.{shaped};
 use crate::Judged;
 use marks::Class;
@@ -79,6 +79,16 @@ pub fn creditor_identifier(text: &[u8]) -> Judged
     }
     if !leaves_one(text, 7) {
         return Judged::Bad(Flaw::CheckDigits);
+    }
+    Judged::Good(0)
+}
+
+// Two capitals.
+pub fn country(text: &[u8]) -> Judged
+    ensures { λ r. ⌜ r ≡ country (now (text .entry)) ⌝ }
+{
+    if !marks::has_shape(text, b"AA") {
+        return Judged::Bad(Flaw::Shape);
     }
     Judged::Good(0)
 }

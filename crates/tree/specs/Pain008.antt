@@ -1,8 +1,9 @@
--- THE PROFILE TREE of document 01, as a value of the description, laid out like its list. To be believed; definitions only.
+-- THE PROFILE TREE of document 01, with the addresses of request 3, as a value of the description, laid out like its list. To be believed; definitions only.
 --   box nm is, txt nm r        an element that holds elements; an element with a text of the rule r
 --   p plays e                  the element e, which plays the part p
 --   a then .., a optional ..   children in order: a stands once; a may be missing (`?`)
 --   only a, repeated a         the last child: a stands once; a stands one or more times
+--   upToTwo a                  the last child: a stands not at all, once or twice
 --   a or b                     `|`
 --   Document, declaration      the root and the declaration
 use Prim.Native.Nat.{ℕ}
@@ -10,10 +11,10 @@ use Prim.Native.String.{String}
 use mathlib.Core.List.{[]}
 use Rattle.laws.specs.Bytes.{Bytes, ascii}
 use Rattle.text.specs.declared.Rule.{Rule}
-use Rattle.text.specs.declared.Rule.the-variants.{Identifier, Name, Remittance, Count, Sum, Amount, Date, Time, Iban, Bic, CreditorIdentifier, Method, Booking, Sepa, Scheme, Sequence, Charges, NotProvided}
-use Rattle.tree.specs.Form.{Elem, Items, Elem.elem, Items.none, Items.item, How.once, How.maybe, How.oneOrMore, How.thisOrNext}
+use Rattle.text.specs.declared.Rule.the-variants.{Identifier, Name, Remittance, Count, Sum, Amount, Date, Time, Iban, Bic, CreditorIdentifier, Method, Booking, Sepa, Scheme, Sequence, Charges, NotProvided, AddressLine, AddressCode, Town, Country}
+use Rattle.tree.specs.Form.{Elem, Items, Elem.elem, Items.none, Items.item, How.once, How.maybe, How.atMostTwo, How.oneOrMore, How.thisOrNext}
 use Rattle.tree.specs.declared.Kind.the-variants.{Holds, Text}
-use Rattle.tree.specs.Parts.{messageCount, messageSum, batch, batchCount, batchSum, scheme, sequence, collectionDate, transaction, endToEnd, amount, mandate, signatureDate, debtorBank, debtorName, debtorAccount, remittance}
+use Rattle.tree.specs.Parts.{messageCount, messageSum, batch, batchCount, batchSum, scheme, sequence, collectionDate, transaction, endToEnd, amount, mandate, signatureDate, debtorBank, debtorName, debtorAccount, remittance, address, addressDetail, town, country, addressLine}
 
 -- ─── how an element is written down ───
 
@@ -45,6 +46,9 @@ only e = item once e none
 abbrev pub repeated : Elem → Items
 repeated e = item oneOrMore e none
 
+abbrev pub upToTwo : Elem → Items
+upToTwo e = item atMostTwo e none
+
 -- ─── the tree ───
 
 -- bank: FinInstnId(BICFI | Othr(Id)); the BICFI plays the part p
@@ -54,6 +58,21 @@ bank p = only (box "FinInstnId" (p plays txt "BICFI" Bic or box "Othr" (only (tx
 -- Id(IBAN); the IBAN plays the part p
 abbrev pub account : ℕ → Items
 account p = only (box "Id" (only (p plays txt "IBAN" Iban)))
+
+-- "PstlAdr after Nm in Cdtr and Dbtr, with StrtNm?, BldgNb?, PstCd?, TwnNm?, Ctry?, then up to two AdrLine" (request 3)
+abbrev pub PstlAdr : Elem
+PstlAdr =
+    address plays box "PstlAdr" (
+    addressDetail plays txt "StrtNm" AddressLine optional
+    addressDetail plays txt "BldgNb" AddressCode optional
+    addressDetail plays txt "PstCd" AddressCode optional
+    town plays txt "TwnNm" Town optional
+    country plays txt "Ctry" Country optional
+    upToTwo (addressLine plays txt "AdrLine" AddressLine))
+
+-- Nm, PstlAdr?; the Nm plays the part p
+abbrev pub party : ℕ → Items
+party p = p plays txt "Nm" Name then PstlAdr optional none
 
 abbrev pub GrpHdr : Elem
 GrpHdr =
@@ -84,7 +103,7 @@ DrctDbtTxInf =
     elem amount (ascii "InstdAmt") (ascii " Ccy=\"EUR\"") (Text Amount) none then
     box "DrctDbtTx" (only (box "MndtRltdInf" (mandate plays txt "MndtId" Identifier then only (signatureDate plays txt "DtOfSgntr" Date)))) then
     box "DbtrAgt" (bank debtorBank) then
-    box "Dbtr" (only (debtorName plays txt "Nm" Name)) then
+    box "Dbtr" (party debtorName) then
     box "DbtrAcct" (account debtorAccount) then
     box "RmtInf" (only (remittance plays txt "Ustrd" Remittance)) optional none)
 
@@ -98,7 +117,7 @@ PmtInf =
     batchSum plays txt "CtrlSum" Sum optional
     PmtTpInf then
     collectionDate plays txt "ReqdColltnDt" Date then
-    box "Cdtr" (only (txt "Nm" Name)) then
+    box "Cdtr" (party 0) then
     box "CdtrAcct" (account 0) then
     box "CdtrAgt" (bank 0) then
     txt "ChrgBr" Charges then

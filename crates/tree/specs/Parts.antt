@@ -55,6 +55,22 @@ debtorAccount = 16
 abbrev pub remittance : ℕ
 remittance = 17
 
+-- an address of a creditor or a debtor, and what its mix is made of: street, number or post code; town; country; line
+abbrev pub address : ℕ
+address = 18
+
+abbrev pub addressDetail : ℕ
+addressDetail = 19
+
+abbrev pub town : ℕ
+town = 20
+
+abbrev pub country : ℕ
+country = 21
+
+abbrev pub addressLine : ℕ
+addressLine = 22
+
 -- after the last
 abbrev pub partsEnd : ℕ
-partsEnd = 18
+partsEnd = 23

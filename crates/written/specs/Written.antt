@@ -46,7 +46,7 @@ abbrev pub remittanceTree : Bytes → Kids (box "RmtInf" (last (part.remittance 
 remittanceTree [] = absent end
 remittanceTree (c ∷ s) = node (only (leaf (c ∷ s))) given end
 
--- no InstrId
+-- no InstrId, and no address
 abbrev pub transactionTree : Collection → Tree DrctDbtTxInf
 transactionTree x =
     node (
@@ -54,7 +54,7 @@ transactionTree x =
     leaf (euros (x .cents)) before
     node (only (node (leaf (x .mandate) before only (leaf (x .signatureDate))))) before
     node (bankTree (x .bank)) before
-    node (only (leaf (x .debtorName))) before
+    node (leaf (x .debtorName) before absent end) before
     node (accountTree (x .debtorAccount)) before
     remittanceTree (x .remittance))
 
@@ -84,7 +84,7 @@ batchTree cr n xs =
     node (only (leaf (schemeWord (termsOf xs .scheme)))) before
     only (leaf (sequenceWord (termsOf xs .sequence)))) before
     leaf (termsOf xs .date) before
-    node (only (leaf (cr .name))) before
+    node (leaf (cr .name) before absent end) before
     node (accountTree (cr .account)) before
     node (bankTree (cr .bank)) before
     leaf (ascii "SLEV") before

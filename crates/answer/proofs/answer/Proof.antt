@@ -13,6 +13,9 @@ transactions-stage-requires c κs = search needs
 text-stage-requires : tie.Need-text-stage-requires
 text-stage-requires c κs = search needs
 
+mix-stage-requires : tie.Need-mix-stage-requires
+mix-stage-requires c κs = search needs
+
 batch-stage-requires : tie.Need-batch-stage-requires
 batch-stage-requires c κs = search needs
 
@@ -49,11 +52,19 @@ or-else-requires-6 c κs = search needs
 or-else-requires-7 : tie.Need-or-else-requires-7
 or-else-requires-7 c κs = search needs
 
+or-else-requires-8 : tie.Need-or-else-requires-8
+or-else-requires-8 c κs = search needs
+
 conclude-requires : tie.Need-conclude-requires
 conclude-requires c κs = search needs
 
 returns : tie.Need-returns
-returns c = answered (c .before .before .before .before .before .before .before .before .before .before .before .before .before .before .before .before .before .before .before .args .heard .now) (c .before .before .before .before .before .before .before .before .before .before .before .before .before .before .before .before .before .before .before .args .totals) (c .before .before .before .before .before .before .before .before .before .before .before .before .before .before .before .before .before .before .before .args .slips) (c .before .before .before .before .before .before .before .before .before .before .before .before .before .before .before .before .before .before .before .args .rows) (c .before .before .before .before .before .before .before .before .before .before .before .before .before .before .before .batches-stage .ensures) (c .before .before .before .before .before .before .before .before .before .before .before .before .before .before .transactions-stage .ensures) (c .before .before .before .before .before .before .before .before .before .before .before .before .before .text-stage .ensures) (c .before .before .before .before .before .before .before .before .before .before .before .before .batch-stage .ensures) (c .before .before .before .before .before .before .before .before .before .before .before .count-stage .ensures) (c .before .before .before .before .before .before .before .before .before .before .sum-stage .ensures) (c .before .before .before .before .before .before .before .before .before .slips-stage .ensures) (c .before .before .before .before .before .before .before .before .rows-stage .ensures) (c .before .before .before .before .before .before .before .or-else .ensures) (c .before .before .before .before .before .before .or-else2 .ensures) (c .before .before .before .before .before .or-else3 .ensures) (c .before .before .before .before .or-else4 .ensures) (c .before .before .before .or-else5 .ensures) (c .before .before .or-else6 .ensures) (c .before .or-else7 .ensures) (c .conclude .ensures)
+returns c =
+    let a = c .before .before .before .before .before .before .before .before .before .before .before .before .before .before .before .before .before .before .before .before .before .args in
+    answered (a .heard .now) (a .totals) (a .slips) (a .rows)
+    (c .before .before .before .before .before .before .before .before .before .before .before .before .before .before .before .before .before .batches-stage .ensures) (c .before .before .before .before .before .before .before .before .before .before .before .before .before .before .before .before .transactions-stage .ensures) (c .before .before .before .before .before .before .before .before .before .before .before .before .before .before .before .text-stage .ensures) (c .before .before .before .before .before .before .before .before .before .before .before .before .before .before .mix-stage .ensures) (c .before .before .before .before .before .before .before .before .before .before .before .before .before .batch-stage .ensures) (c .before .before .before .before .before .before .before .before .before .before .before .before .count-stage .ensures) (c .before .before .before .before .before .before .before .before .before .before .before .sum-stage .ensures) (c .before .before .before .before .before .before .before .before .before .before .slips-stage .ensures) (c .before .before .before .before .before .before .before .before .before .rows-stage .ensures)
+    (c .before .before .before .before .before .before .before .before .or-else .ensures) (c .before .before .before .before .before .before .before .or-else2 .ensures) (c .before .before .before .before .before .before .or-else3 .ensures) (c .before .before .before .before .before .or-else4 .ensures) (c .before .before .before .before .or-else5 .ensures) (c .before .before .before .or-else6 .ensures) (c .before .before .or-else7 .ensures) (c .before .or-else8 .ensures)
+    (c .conclude .ensures)
 
 pub answer-spec : {M : Type 1} → statement M
 answer-spec =
@@ -62,6 +73,7 @@ answer-spec =
     batches-stage-requires
     transactions-stage-requires
     text-stage-requires
+    mix-stage-requires
     batch-stage-requires
     count-stage-requires
     sum-stage-requires
@@ -74,5 +86,6 @@ answer-spec =
     or-else-requires-5
     or-else-requires-6
     or-else-requires-7
+    or-else-requires-8
     conclude-requires
     returns)

@@ -111,6 +111,30 @@ enum-told-18 c = search needs
 not-provided-requires : tie.Need-not-provided-requires
 not-provided-requires c κs = search needs
 
+enum-told-19 : tie.Need-enum-told-19
+enum-told-19 c = search needs
+
+address-line-requires : tie.Need-address-line-requires
+address-line-requires c κs = search needs
+
+enum-told-20 : tie.Need-enum-told-20
+enum-told-20 c = search needs
+
+address-code-requires : tie.Need-address-code-requires
+address-code-requires c κs = search needs
+
+enum-told-21 : tie.Need-enum-told-21
+enum-told-21 c = search needs
+
+town-requires : tie.Need-town-requires
+town-requires c κs = search needs
+
+enum-told-22 : tie.Need-enum-told-22
+enum-told-22 c = search needs
+
+country-requires : tie.Need-country-requires
+country-requires c κs = search needs
+
 returns : tie.Need-returns
 returns c = rw (c .before .enum-told .given .1) (c .identifier .ensures)
 
@@ -165,6 +189,18 @@ returns-17 c = rw (c .before .enum-told17 .given .1) (c .charges .ensures)
 returns-18 : tie.Need-returns-18
 returns-18 c = rw (c .before .enum-told18 .given .1) (c .not-provided .ensures)
 
+returns-19 : tie.Need-returns-19
+returns-19 c = rw (c .before .enum-told19 .given .1) (c .address-line .ensures)
+
+returns-20 : tie.Need-returns-20
+returns-20 c = rw (c .before .enum-told20 .given .1) (c .address-code .ensures)
+
+returns-21 : tie.Need-returns-21
+returns-21 c = rw (c .before .enum-told21 .given .1) (c .town .ensures)
+
+returns-22 : tie.Need-returns-22
+returns-22 c = rw (c .before .enum-told22 .given .1) (c .country .ensures)
+
 pub judge-spec : {M : Type 1} → statement M
 judge-spec =
     tie.close
@@ -205,6 +241,14 @@ judge-spec =
     charges-requires
     enum-told-18
     not-provided-requires
+    enum-told-19
+    address-line-requires
+    enum-told-20
+    address-code-requires
+    enum-told-21
+    town-requires
+    enum-told-22
+    country-requires
     returns
     returns-2
     returns-3
@@ -222,4 +266,8 @@ judge-spec =
     returns-15
     returns-16
     returns-17
-    returns-18)
+    returns-18
+    returns-19
+    returns-20
+    returns-21
+    returns-22)
