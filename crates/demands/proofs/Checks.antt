@@ -27,8 +27,9 @@ use Rattle.promise.specs.Texts.{TextBreaks}
 use Rattle.promise.specs.Addresses.{AddressBreaks}
 use Rattle.promise.proofs.Outcome.{same-said, refusal-keeps}
 use Rattle.promise.proofs.Numbers.{refusal-number, belongs-exactly}
-use Rattle.promise.proofs.Texts.{At, text-refused}
-use Rattle.promise.proofs.Addresses as address
+use Rattle.promise.proofs.Stops.{At}
+use Rattle.promise.proofs.Texts.{text-refused}
+use Rattle.promise.proofs.Addresses.{address-refused}
 use Rattle.promise.proofs.Demand2.{demand-2-accepts, demand-2-only}
 use Rattle.carries.specs.Carried.{Accepted}
 use Rattle.desk.specs.Answers.{checkedNumbers}
@@ -54,6 +55,9 @@ rows-tell m (b ∷ bs) l =
     (h .0, subst (λ (x : List ℕ). RowsTell bs x) (sym (h .1)) (rows-tell (m + exactCount b) bs l))
 
 -- ─── an outcome of the check ───
+
+through : {A B C : Type 0} → A ↔ B → B ↔ C → A ↔ C
+through f g = (λ x. g .0 (f .0 x), λ y. f .1 (g .1 y))
 
 -- none of the check's numbers is 0, nor does 0 stand before 6
 least : (n : ℕ) → CheckNumber n → 1 ≤ n
@@ -160,26 +164,19 @@ module _ (s : Bytes) (slips rows : List ℕ) (v : Verdict) (a b : List ℕ) (h :
       in
       subst (λ (l : List ℕ). RowsTell (batchesOf (saidBy m)) l) (sym put) (rows-tell 0 (batchesOf (saidBy m)) (drop (0 + length (rowsOf (saidBy m))) rows))
 
-  pub texts : (f : Flaw) (p : ℕ) → ((number ≡ flawNumber f) × (checkedNumbers v .place ≡ p)) ↔ ((m : Message Document) × TextBreaks s m f p)
-  texts f p = (to v refl, λ x. from (text-refused s slips rows v a b h f p .1 x))
+  -- a number that is not 0, and its place, are those of a refusal
+  told-at : (n p : ℕ) → 1 ≤ n → ((number ≡ n) × (checkedNumbers v .place ≡ p)) ↔ At s slips rows v a b h n p
+  told-at n p l = (to v refl, from)
     where
-      to : (w : Verdict) → v ≡ w → (number ≡ flawNumber f) × (checkedNumbers v .place ≡ p) → (m : Message Document) × TextBreaks s m f p
-      to (accepted t) e x = absurd (omega (arith, ap (λ (w : Verdict). checkedNumbers w .number) e, x .0, flaw-number f))
-      to (refused g) e x =
-          text-refused s slips rows v a b h f p .0
-          (g, (e, (sym (ap (λ (w : Verdict). checkedNumbers w .number) e) ∙ x .0, sym (ap (λ (w : Verdict). checkedNumbers w .place) e) ∙ x .1)))
+      to : (w : Verdict) → v ≡ w → (number ≡ n) × (checkedNumbers v .place ≡ p) → At s slips rows v a b h n p
+      to (accepted t) e x = absurd (omega (arith, ap (λ (w : Verdict). checkedNumbers w .number) e, x .0))
+      to (refused g) e x = (g, (e, (sym (ap (λ (w : Verdict). checkedNumbers w .number) e) ∙ x .0, sym (ap (λ (w : Verdict). checkedNumbers w .place) e) ∙ x .1)))
 
-      from : At s slips rows v a b h f p → (number ≡ flawNumber f) × (checkedNumbers v .place ≡ p)
-      from (g, (e, (n, d))) = (ap (λ (w : Verdict). checkedNumbers w .number) e ∙ n, ap (λ (w : Verdict). checkedNumbers w .place) e ∙ d)
+      from : At s slips rows v a b h n p → (number ≡ n) × (checkedNumbers v .place ≡ p)
+      from (g, (e, (m, d))) = (ap (λ (w : Verdict). checkedNumbers w .number) e ∙ m, ap (λ (w : Verdict). checkedNumbers w .place) e ∙ d)
+
+  pub texts : (f : Flaw) (p : ℕ) → ((number ≡ flawNumber f) × (checkedNumbers v .place ≡ p)) ↔ ((m : Message Document) × TextBreaks s m f p)
+  texts f p = through (told-at (flawNumber f) p (omega (arith, flaw-number f))) (text-refused s slips rows v a b h f p)
 
   pub addresses : (p : ℕ) → ((number ≡ 59) × (checkedNumbers v .place ≡ p)) ↔ ((m : Message Document) × AddressBreaks s m p)
-  addresses p = (to v refl, λ x. from (address.address-refused s slips rows v a b h p .1 x))
-    where
-      to : (w : Verdict) → v ≡ w → (number ≡ 59) × (checkedNumbers v .place ≡ p) → (m : Message Document) × AddressBreaks s m p
-      to (accepted t) e x = absurd (omega (arith, ap (λ (w : Verdict). checkedNumbers w .number) e, x .0))
-      to (refused g) e x =
-          address.address-refused s slips rows v a b h p .0
-          (g, (e, (sym (ap (λ (w : Verdict). checkedNumbers w .number) e) ∙ x .0, sym (ap (λ (w : Verdict). checkedNumbers w .place) e) ∙ x .1)))
-
-      from : address.At s slips rows v a b h p → (number ≡ 59) × (checkedNumbers v .place ≡ p)
-      from (g, (e, (n, d))) = (ap (λ (w : Verdict). checkedNumbers w .number) e ∙ n, ap (λ (w : Verdict). checkedNumbers w .place) e ∙ d)
+  addresses p = through (told-at 59 p (omega arith)) (address-refused s slips rows v a b h p)

@@ -1,6 +1,6 @@
 -- WHAT THE ROW SAYS OF ADDRESSES, STORE BY STORE, in plain variables.
 --   address-opened, address-closed          an address begins; none is open
---   kept-good, noted-bad                    a mix that was found good, or bad
+--   by-mix                                  a mix that was found good, or bad
 --   early-put, late-put                     a mix that is good, or bad, at an early date and at a late one
 --   judged-none, judged-some                no address is open; the open one is judged
 --   ended-early, ended-late, mixes-begun    a batch ends, another begins
@@ -28,13 +28,9 @@ mixes-is e f g h = λ i. record { found = e i; address = f i; early = g i; late 
 
 -- ─── one slot ───
 
--- a test that was made
-module _ (a b : List ℕ) (good : Bool) where
-  pub kept-good : good ≡ true → a ≡ ifTrue good a b
-  kept-good e = ap (λ (z : Bool). ifTrue z a b) (sym e)
-
-  pub noted-bad : good ≡ false → b ≡ ifTrue good a b
-  noted-bad e = ap (λ (z : Bool). ifTrue z a b) (sym e)
+-- a mix that was found good, or bad
+pub by-mix : (a b : List ℕ) (good z : Bool) → good ≡ z → ifTrue z a b ≡ ifTrue good a b
+by-mix a b good z e = ap (λ (y : Bool). ifTrue y a b) (sym e)
 
 module _ (ns : List ℕ) (h : length ns ≡ heardLength) where
   abbrev w : Row

@@ -6,28 +6,30 @@ use native.Mathlib.Omega.{arith}
 use mathlib.Core.Bool.{Bool, true, false}
 use mathlib.Core.List.{List, [], _∷_, _++_, map}
 use mathlib.Core.Option.{Option, none, some}
-use mathlib.Core.Path.{_≡_, refl, ap, sym, subst, _∙_}
-use mathlib.Core.Logic.{inl, inr, _↔_}
+use mathlib.Core.Path.{_≡_, refl, ap, subst, _∙_}
+use mathlib.Core.Logic.{_↔_}
 use lib.Dec.{T}
+use lib.ListN.{length}
 use Rattle.laws.specs.Bytes.{Bytes}
 use Rattle.laws.specs.Lists.{All}
 use Rattle.laws.proofs.Counts.{here-not, later-not}
-use Rattle.profile.specs.Limits.{mostBytes, mostBatches, mostTransactions}
+use Rattle.profile.specs.Limits.{mostBatches, mostTransactions}
 use Rattle.profile.specs.Refusals.{Fault, fault}
 use Rattle.profile.specs.Numbers.{TextNumber}
 use Rattle.profile.proofs.Faults.{flaw-number}
+use Rattle.text.specs.Rules.{good}
 use Rattle.tree.specs.Form.{Message}
 use Rattle.tree.specs.Pain008.{Document}
 use Rattle.tree.specs.Parts as part
 use Rattle.message.specs.declared.Told.{Told}
-use Rattle.message.specs.Message.{allOf, the, batchesOf}
+use Rattle.message.specs.Message.{allOf, the}
 use Rattle.message.specs.Addresses.{Party, partiesOf, mixOf, goodAddress}
-use Rattle.message.specs.Verdict.{Room, Verdict, Verdict.refused, at, first, orElse, firstBroken, placeIn, unlessAt, mixFault, stages, totalsOf}
+use Rattle.message.specs.Verdict.{Room, Verdict, at, first, orElse, firstBroken, placeIn, unlessAt, mixFault}
 use Rattle.promise.specs.Check.{saidBy, roomOf, Checks}
 use Rattle.promise.specs.Addresses.{BadMixAt, AddressBreaks}
-use Rattle.promise.proofs.Accepts.{after-within, within-after, at-none, at-is-none, none-broken, broken-none, good-mix}
-use Rattle.promise.proofs.Outcome.{same-said}
-use Rattle.promise.proofs.Numbers.{at-among, broken-among, passed, three, four, mixes, rest, rest-among, Way, found, found-refused}
+use Rattle.promise.proofs.Accepts.{none-broken, broken-none, good-mix}
+use Rattle.promise.proofs.Numbers.{broken-among, passed, mixes, rest, rest-among}
+use Rattle.promise.proofs.Stops.{past-limits, within-limits, Stops, At, Stopped, stage-refused}
 
 -- ─── the stage of the addresses ───
 
@@ -63,61 +65,38 @@ first-mix xs p b = ap (λ (l : List Party). first (map mixFault l)) (b .first .w
 
 -- ─── the theorem ───
 
-module _ (r : Room) (ts : List Told) where
-  -- 3, 4 and the texts find nothing, and the addresses do
-  found-mix : (f : Fault) → f .number ≡ 59 → first (stages r ts) ≡ some f
-      → (at 3 (three r ts) ≡ none) × ((at 4 (four r ts) ≡ none) × ((firstBroken ts ≡ none) × (mixes r ts ≡ some f)))
-  found-mix f n e =
-      let after : Option Fault = orElse (mixes r ts) (rest r ts) in
-      let texts : Option Fault = orElse (firstBroken ts) after in
-      let x = passed (λ k. k ≡ 3) (at 3 (three r ts)) (orElse (at 4 (four r ts)) texts) f (at-among (λ k. k ≡ 3) 3 (three r ts) refl) e (λ z. omega arith) in
-      let y = passed (λ k. k ≡ 4) (at 4 (four r ts)) texts f (at-among (λ k. k ≡ 4) 4 (four r ts) refl) (x .1) (λ z. omega arith) in
-      let z = passed TextNumber (firstBroken ts) after f (broken-among TextNumber ts flaw-number) (y .1) (λ z. omega arith) in
-      (x .0, (y .0, (z .0, go (mixes r ts) (z .1))))
+module _ (r : Room) (ts : List Told) (p : ℕ) where
+  -- the message is within the limits, all its texts are good, and the mix of an address is bad
+  abbrev Breaks : Type 0
+  Breaks =
+      (length (allOf part.batch ts) ≤ mostBatches)
+      × ((length (allOf part.transaction ts) ≤ mostTransactions) × (All (λ t. T (good (t .judged))) ts × BadMixAt (partiesOf ts) p))
+
+  stops-mix : Stops r ts 59 p → Breaks
+  stops-mix (x, (e, (n, d))) =
+      let y = past-limits r ts x (omega (arith, n)) e in
+      let z = passed TextNumber (firstBroken ts) (orElse (mixes r ts) (rest r ts)) x (broken-among TextNumber ts flaw-number) (y .1 .1) (λ h. omega (arith, n, h)) in
+      (y .0, (y .1 .0, (none-broken ts (z .0), subst (λ (k : ℕ). BadMixAt (partiesOf ts) k) d (mix-first (partiesOf ts) x (go (mixes r ts) (z .1))))))
     where
-      go : (o : Option Fault) → orElse o (rest r ts) ≡ some f → o ≡ some f
-      go none e = let h = rest-among r ts (λ k. k ≤ 11) (λ k a. a .1) f e in absurd (omega arith)
+      go : (o : Option Fault) → orElse o (rest r ts) ≡ some x → o ≡ some x
+      go none e = let h = rest-among r ts (λ k. k ≤ 11) (λ k a. a .1) x e in absurd (omega (arith, n, h))
       go (some g) e = e
 
+  mix-stops : Breaks → Stops r ts 59 p
+  mix-stops (h, (k, (g, b))) =
+      (fault 59 p, (within-limits r ts h k ∙ (λ i. orElse (broken-none ts g i) (orElse (first-mix (partiesOf ts) p b i) (rest r ts))), (refl, refl)))
+
 module _ (s : Bytes) (slips rows : List ℕ) (v : Verdict) (a b : List ℕ) (c : Checks s slips rows v a b) (p : ℕ) where
-  -- the verdict has the number 59 and this place
-  abbrev pub At : Type 0
-  At = (x : Fault) × ((v ≡ refused x) × ((x .number ≡ 59) × (x .place ≡ p)))
-
-  pub address-refused : At ↔ ((m : Message Document) × AddressBreaks s m p)
-  address-refused = (λ x. to (c .case) (x .0) (x .1 .0) (x .1 .1 .0) (x .1 .1 .1), λ x. from (c .case) (x .0) (x .1))
+  pub address-refused : At s slips rows v a b c 59 p ↔ ((m : Message Document) × AddressBreaks s m p)
+  address-refused = (λ x. to (refused′ .0 x), λ x. refused′ .1 (from x))
     where
-      same : (x y : Fault) → v ≡ refused x → v ≡ refused y → x .number ≡ y .number
-      same x y d e = let h = sym d ∙ e in let k : x ≡ y = cc in ap (λ (z : Fault). z .number) k
+      refused′ : At s slips rows v a b c 59 p ↔ ((m : Message Document) × Stopped s slips rows v a b c 59 p m)
+      refused′ = stage-refused s slips rows v a b c 59 p (omega arith)
 
-      to : Way s slips rows v a b → (x : Fault) → v ≡ refused x → x .number ≡ 59 → x .place ≡ p → (m : Message Document) × AddressBreaks s m p
-      to (inl q) x e t d = absurd (omega (arith, same (fault 1 mostBytes) x (q .answer) e, t))
-      to (inr (inl q)) x e t d = absurd (omega (arith, same (fault 2 (q .place)) x (q .answer) e, t))
-      to (inr (inr q)) x e t d =
-          let ts : List Told = saidBy (q .read) in
-          let r : Room = roomOf slips rows in
-          let y = found-mix r ts x t (found s slips rows v a b c q x e) in (
-            q .read,
-            record {
-              short = q .short;
-              bytes = q .bytes;
-              batches = after-within mostBatches (allOf part.batch ts) (at-none 3 (three r ts) (y .0));
-              transactions = after-within mostTransactions (allOf part.transaction ts) (at-none 4 (four r ts) (y .1 .0));
-              texts = none-broken ts (y .1 .1 .0);
-              breaks = subst (λ (n : ℕ). BadMixAt (partiesOf ts) n) d (mix-first (partiesOf ts) x (y .1 .1 .1));
-            },
-          )
+      to : (m : Message Document) × Stopped s slips rows v a b c 59 p m → (m : Message Document) × AddressBreaks s m p
+      to (m, t) =
+          let y = stops-mix (roomOf slips rows) (saidBy m) p (t .stops) in
+          (m, record { short = t .short; bytes = t .bytes; batches = y .0; transactions = y .1 .0; texts = y .1 .1 .0; breaks = y .1 .1 .1 })
 
-      from : Way s slips rows v a b → (m : Message Document) → AddressBreaks s m p → At
-      from (inl q) m t = absurd (omega (arith, q .long, t .short))
-      from (inr (inl q)) m t = absurd (q .not-of-form .0 (m, t .bytes))
-      from (inr (inr q)) m t =
-          let r : Room = roomOf slips rows in
-          let ts : List Told = saidBy m in
-          let few : at 3 (three r ts) ≡ none = at-is-none 3 (three r ts) (within-after mostBatches (allOf part.batch ts) (t .batches)) in
-          let left : at 4 (four r ts) ≡ none = at-is-none 4 (four r ts) (within-after mostTransactions (allOf part.transaction ts) (t .transactions)) in
-          let bad : mixes r ts ≡ some (fault 59 p) = first-mix (partiesOf ts) p (t .breaks) in
-          let d : first (stages r ts) ≡ some (fault 59 p) = rw (few, left, broken-none ts (t .texts), bad) refl in
-          let e : saidBy (q .read) ≡ ts = same-said (q .read) m s (q .bytes) (t .bytes) in
-          let stage : first (stages r (saidBy (q .read))) ≡ some (fault 59 p) = ap (λ (us : List Told). first (stages r us)) e ∙ d in
-          (fault 59 p, (q .answer ∙ found-refused _ (totalsOf (batchesOf (saidBy (q .read)))) (fault 59 p) stage, (refl, refl)))
+      from : (m : Message Document) × AddressBreaks s m p → (m : Message Document) × Stopped s slips rows v a b c 59 p m
+      from (m, t) = (m, record { short = t .short; bytes = t .bytes; stops = mix-stops (roomOf slips rows) (saidBy m) p (t .batches, (t .transactions, (t .texts, t .breaks))) })

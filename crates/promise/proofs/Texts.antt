@@ -5,15 +5,15 @@ use Prim.Native.Nat.{ℕ, _≤_}
 use native.Mathlib.Omega.{arith}
 use mathlib.Core.List.{List, [], _∷_, _++_}
 use mathlib.Core.Option.{Option, none, some}
-use mathlib.Core.Path.{_≡_, refl, ap, sym, subst, _∙_}
-use mathlib.Core.Logic.{inl, inr, _↔_}
+use mathlib.Core.Path.{_≡_, refl, ap, subst, _∙_}
+use mathlib.Core.Logic.{_↔_}
 use lib.Dec.{T}
+use lib.ListN.{length}
 use Rattle.laws.specs.Bytes.{Bytes}
 use Rattle.laws.specs.Lists.{All}
 use Rattle.laws.proofs.Counts.{here-not, later-not}
-use Rattle.profile.specs.Limits.{mostBytes, mostBatches, mostTransactions}
+use Rattle.profile.specs.Limits.{mostBatches, mostTransactions}
 use Rattle.profile.specs.Refusals.{Fault, fault, flawNumber}
-use Rattle.profile.specs.Numbers.{TextNumber}
 use Rattle.profile.specs.declared.Flaw.{Flaw}
 use Rattle.profile.proofs.Faults.{flaw-number, flaw-once}
 use Rattle.text.specs.declared.Judged.{Judged}
@@ -23,14 +23,13 @@ use Rattle.tree.specs.Form.{Message}
 use Rattle.tree.specs.Pain008.{Document}
 use Rattle.tree.specs.Parts as part
 use Rattle.message.specs.declared.Told.{Told}
-use Rattle.message.specs.Message.{allOf, batchesOf}
+use Rattle.message.specs.Message.{allOf}
 use Rattle.message.specs.Addresses.{partiesOf}
-use Rattle.message.specs.Verdict.{Room, Verdict, Verdict.refused, at, first, orElse, broken, firstBroken, stages, totalsOf}
+use Rattle.message.specs.Verdict.{Room, Verdict, orElse, broken, firstBroken}
 use Rattle.promise.specs.Check.{saidBy, roomOf, Checks}
 use Rattle.promise.specs.Texts.{BreaksAt, TextBreaks}
-use Rattle.promise.proofs.Accepts.{after-within, within-after, at-none, at-is-none}
-use Rattle.promise.proofs.Outcome.{same-said}
-use Rattle.promise.proofs.Numbers.{at-among, parties-among, passed, three, four, mixes, rest, rest-among, Way, found, found-refused}
+use Rattle.promise.proofs.Numbers.{parties-among, passed, mixes, rest, rest-among}
+use Rattle.promise.proofs.Stops.{past-limits, within-limits, Stops, At, Stopped, stage-refused}
 
 -- ─── the stage of the texts ───
 
@@ -65,59 +64,38 @@ first-broken ts f p b = ap firstBroken (b .first .whole) ∙ go (b .first .befor
 
 -- ─── the theorem ───
 
-module _ (r : Room) (ts : List Told) where
-  -- 3 and 4 find nothing, and the texts do
-  found-text : (f : Fault) → TextNumber (f .number) → first (stages r ts) ≡ some f → (at 3 (three r ts) ≡ none) × ((at 4 (four r ts) ≡ none) × (firstBroken ts ≡ some f))
-  found-text f n e =
-      let texts : Option Fault = orElse (firstBroken ts) (orElse (mixes r ts) (rest r ts)) in
-      let x = passed (λ k. k ≡ 3) (at 3 (three r ts)) (orElse (at 4 (four r ts)) texts) f (at-among (λ k. k ≡ 3) 3 (three r ts) refl) e (λ z. omega arith) in
-      let y = passed (λ k. k ≡ 4) (at 4 (four r ts)) texts f (at-among (λ k. k ≡ 4) 4 (four r ts) refl) (x .1) (λ z. omega arith) in
-      (x .0, (y .0, go (firstBroken ts) (y .1)))
+module _ (r : Room) (ts : List Told) (f : Flaw) (p : ℕ) where
+  -- the message is within the limits, and a text of it breaks its rule
+  abbrev Breaks : Type 0
+  Breaks = (length (allOf part.batch ts) ≤ mostBatches) × ((length (allOf part.transaction ts) ≤ mostTransactions) × BreaksAt ts f p)
+
+  stops-text : Stops r ts (flawNumber f) p → Breaks
+  stops-text (x, (e, (n, d))) =
+      let y = past-limits r ts x (omega (arith, n, flaw-number f)) e in
+      (y .0, (y .1 .0, subst (λ (k : ℕ). BreaksAt ts f k) d (broken-first ts x f (go (firstBroken ts) (y .1 .1)) n)))
     where
-      go : (o : Option Fault) → orElse o (orElse (mixes r ts) (rest r ts)) ≡ some f → o ≡ some f
+      go : (o : Option Fault) → orElse o (orElse (mixes r ts) (rest r ts)) ≡ some x → o ≡ some x
       go none e =
-          let x = passed (λ k. k ≡ 59) (mixes r ts) (rest r ts) f (parties-among (λ k. k ≡ 59) (partiesOf ts) refl) e (λ z. omega arith) in
-          let h = rest-among r ts (λ k. k ≤ 11) (λ k a. a .1) f (x .1) in
-          absurd (omega arith)
+          let z = passed (λ k. k ≡ 59) (mixes r ts) (rest r ts) x (parties-among (λ k. k ≡ 59) (partiesOf ts) refl) e (λ h. omega (arith, n, h, flaw-number f)) in
+          let h = rest-among r ts (λ k. k ≤ 11) (λ k a. a .1) x (z .1) in
+          absurd (omega (arith, n, h, flaw-number f))
       go (some g) e = e
 
+  text-stops : Breaks → Stops r ts (flawNumber f) p
+  text-stops (h, (k, b)) =
+      (fault (flawNumber f) p, (within-limits r ts h k ∙ ap (λ (o : Option Fault). orElse o (orElse (mixes r ts) (rest r ts))) (first-broken ts f p b), (refl, refl)))
+
 module _ (s : Bytes) (slips rows : List ℕ) (v : Verdict) (a b : List ℕ) (c : Checks s slips rows v a b) (f : Flaw) (p : ℕ) where
-  -- the verdict has this number and this place
-  abbrev pub At : Type 0
-  At = (x : Fault) × ((v ≡ refused x) × ((x .number ≡ flawNumber f) × (x .place ≡ p)))
-
-  pub text-refused : At ↔ ((m : Message Document) × TextBreaks s m f p)
-  text-refused = (λ x. to (c .case) (x .0) (x .1 .0) (x .1 .1 .0) (x .1 .1 .1), λ x. from (c .case) (x .0) (x .1))
+  pub text-refused : At s slips rows v a b c (flawNumber f) p ↔ ((m : Message Document) × TextBreaks s m f p)
+  text-refused = (λ x. to (refused′ .0 x), λ x. refused′ .1 (from x))
     where
-      same : (x y : Fault) → v ≡ refused x → v ≡ refused y → x .number ≡ y .number
-      same x y d e = let h = sym d ∙ e in let k : x ≡ y = cc in ap (λ (z : Fault). z .number) k
+      refused′ : At s slips rows v a b c (flawNumber f) p ↔ ((m : Message Document) × Stopped s slips rows v a b c (flawNumber f) p m)
+      refused′ = stage-refused s slips rows v a b c (flawNumber f) p (omega (arith, flaw-number f))
 
-      to : Way s slips rows v a b → (x : Fault) → v ≡ refused x → x .number ≡ flawNumber f → x .place ≡ p → (m : Message Document) × TextBreaks s m f p
-      to (inl q) x e t d = absurd (omega (arith, same (fault 1 mostBytes) x (q .answer) e, flaw-number f))
-      to (inr (inl q)) x e t d = absurd (omega (arith, same (fault 2 (q .place)) x (q .answer) e, flaw-number f))
-      to (inr (inr q)) x e t d =
-          let ts : List Told = saidBy (q .read) in
-          let r : Room = roomOf slips rows in
-          let y = found-text r ts x (subst TextNumber (sym t) (flaw-number f)) (found s slips rows v a b c q x e) in (
-            q .read,
-            record {
-              short = q .short;
-              bytes = q .bytes;
-              batches = after-within mostBatches (allOf part.batch ts) (at-none 3 (three r ts) (y .0));
-              transactions = after-within mostTransactions (allOf part.transaction ts) (at-none 4 (four r ts) (y .1 .0));
-              breaks = subst (λ (k : ℕ). BreaksAt ts f k) d (broken-first ts x f (y .1 .1) t);
-            },
-          )
+      to : (m : Message Document) × Stopped s slips rows v a b c (flawNumber f) p m → (m : Message Document) × TextBreaks s m f p
+      to (m, t) =
+          let y = stops-text (roomOf slips rows) (saidBy m) f p (t .stops) in
+          (m, record { short = t .short; bytes = t .bytes; batches = y .0; transactions = y .1 .0; breaks = y .1 .1 })
 
-      from : Way s slips rows v a b → (m : Message Document) → TextBreaks s m f p → At
-      from (inl q) m t = absurd (omega (arith, q .long, t .short))
-      from (inr (inl q)) m t = absurd (q .not-of-form .0 (m, t .bytes))
-      from (inr (inr q)) m t =
-          let r : Room = roomOf slips rows in
-          let ts : List Told = saidBy m in
-          let few : at 3 (three r ts) ≡ none = at-is-none 3 (three r ts) (within-after mostBatches (allOf part.batch ts) (t .batches)) in
-          let left : at 4 (four r ts) ≡ none = at-is-none 4 (four r ts) (within-after mostTransactions (allOf part.transaction ts) (t .transactions)) in
-          let d : first (stages r ts) ≡ some (fault (flawNumber f) p) = rw (few, left, first-broken ts f p (t .breaks)) refl in
-          let e : saidBy (q .read) ≡ ts = same-said (q .read) m s (q .bytes) (t .bytes) in
-          let stage : first (stages r (saidBy (q .read))) ≡ some (fault (flawNumber f) p) = ap (λ (us : List Told). first (stages r us)) e ∙ d in
-          (fault (flawNumber f) p, (q .answer ∙ found-refused _ (totalsOf (batchesOf (saidBy (q .read)))) (fault (flawNumber f) p) stage, (refl, refl)))
+      from : (m : Message Document) × TextBreaks s m f p → (m : Message Document) × Stopped s slips rows v a b c (flawNumber f) p m
+      from (m, t) = (m, record { short = t .short; bytes = t .bytes; stops = text-stops (roomOf slips rows) (saidBy m) f p (t .batches, (t .transactions, t .breaks)) })

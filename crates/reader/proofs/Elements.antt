@@ -11,7 +11,6 @@ use lib.Dec.{T}
 use lib.ListN.{length, drop}
 use Rattle.laws.specs.Bytes.{Bytes, span}
 use Rattle.text.specs.declared.Rule.{Rule}
-use Rattle.text.specs.declared.Judged.the-variants.{Good}
 use Rattle.tree.specs.declared.Kind.{Kind}
 use Rattle.tree.specs.declared.Kind.the-variants.{Holds, Text}
 use Rattle.tree.specs.Parts.{partsEnd}
@@ -23,7 +22,7 @@ use Rattle.heard.specs.State.{step}
 use Rattle.heard.specs.Row.{Row, rowOf, stateOf, stateWith}
 use Rattle.heard.specs.Bounds.{Within, Fit}
 use Rattle.heard.proofs.Bounds.{within-more, within-step}
-use Rattle.events.specs.Events.{Plain}
+use Rattle.events.specs.Events.{heldAt, Plain}
 use Rattle.events.proofs.Events.{text-step}
 use Rattle.plan.specs.declared.Found.the-variants.{Whole}
 use Rattle.plan.specs.Plan.{cell, kindOf, openTag, found}
@@ -110,7 +109,7 @@ module _ (t : Bytes) (e : ℕ) (k : Known t e) (q : kindOf (cell t e 4) ≡ Hold
   holder-small = holder-fit 0 0 0 .small
 
   module _ (s : Bytes) (at start end : ℕ) (ns ms : List ℕ) (y z : Tally) (sl rw sl′ rw′ : List ℕ)
-      (o : stateOf ms z sl′ rw′ ≡ step (stateOf ns y sl rw) (record { part = cell t e 5; place = at; start = start; length = end - start; judged = Good 0 })) where
+      (o : stateOf ms z sl′ rw′ ≡ step (stateOf ns y sl rw) (heldAt (cell t e 5) at start (end - start))) where
     pub begin-element : start ≡ at + length (openTag t e) → end ≡ start + span white (drop start s) → (x : Reads t s)
         → ((c : Elem) → T (holdsElem t e c) → x ≡ kidsFrom t s (stateOf ms z sl′ rw′) c end) → (c : Elem) → T (holdsElem t e c) → x ≡ oneAt t s (stateOf ns y sl rw) c at
     unfolding stepOf
