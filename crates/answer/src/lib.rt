@@ -1,4 +1,5 @@
 // What the check answers: the stages from 3 on, from what was heard and the totals after the last event. Definitions: specs/.
+#![tactic(auto)]
 ghost use Rattle.std.specs.Prelude.{◌≡◌, ◌+◌, ◌*◌, ◌≤◌, leb, length, get_or};
 ghost use Rattle.profile.specs.Limits.{most_bytes};
 ghost use Rattle.tree.specs.Parts as part;
@@ -12,14 +13,14 @@ use heard::{Part, Slot, Word, row};
 use profile::{ControlSum, Flaw, NumberOfTransactions, Refusal, Totals};
 
 // What a stage of the check finds.
-#[derive(Drop)]
+#[derive(Clone, Copy)]
 pub enum Stage {
     Passed,
     Refused(Refusal),
 }
 
 // What is answered: the totals, or the refusal of the first stage that finds a fault.
-#[derive(Drop)]
+#[derive(Clone, Copy)]
 pub enum Checked {
     Accepted(Totals),
     Refused(Refusal),

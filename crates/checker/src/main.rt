@@ -1,4 +1,5 @@
 // Checks the message on standard input, and prints what that comes to.
+#![tactic(auto)]
 use libc::STDIN_FILENO;
 
 // The most bytes of a message that is read.

@@ -3,6 +3,7 @@
 //   lines    where the lines of a list end
 //   values   the values of a line, field by field
 //   stages   the stages that go over all lines: refusals 23, and 51 to 58
+#![tactic(auto)]
 ghost use Rattle.std.specs.Prelude.{◌≡◌};
 ghost use Rattle.daylist.specs.Stages.{judged_list};
 
@@ -13,14 +14,14 @@ pub mod stages;
 pub mod values;
 
 // What a line is judged: good, or the flaw of its first field that breaks its rule, and the number of that field, from 1.
-#[derive(Drop)]
+#[derive(Clone, Copy)]
 pub enum JudgedLine {
     Good,
     Bad(profile::Flaw, usize),
 }
 
 // What a list is judged: good, with the number of its collections, or refused.
-#[derive(Drop)]
+#[derive(Clone, Copy)]
 pub enum JudgedList {
     Good(usize),
     Refused(profile::ListRefusal),

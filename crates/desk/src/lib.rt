@@ -1,4 +1,5 @@
 // The desk for programs in other languages: the check and the writer with C's calling convention. include/desk.h states them in C.
+#![tactic(auto)]
 ghost use Rattle.std.specs.Prelude.{◌≡◌, length};
 ghost use Rattle.answer.specs.Said.{said};
 ghost use Rattle.write.specs.Write.{answered, answer_for, output_for};
@@ -11,7 +12,7 @@ use write::Written;
 
 // What the check answers: number 0 and the totals of an accepted message, or the number and place of a refusal.
 #[repr(C)]
-#[derive(Drop)]
+#[derive(Clone, Copy)]
 pub struct DeskChecked {
     pub number: u64,
     pub place: u64,
@@ -54,7 +55,7 @@ pub extern "C" fn desk_check(message: &[u8], slips: &mut [u64], rows: &mut [u64]
 
 // What the writer answers: number 0 and the length of the message, or the number and place of a refusal, and the field of a value.
 #[repr(C)]
-#[derive(Drop)]
+#[derive(Clone, Copy)]
 pub struct DeskWritten {
     pub number: u64,
     pub place: u64,

@@ -2,6 +2,7 @@
 //
 //   hex     hexadecimal digits, and the bytes that they stand for
 //   lines   where the lines end and start
+#![tactic(auto)]
 ghost use Rattle.std.specs.Prelude.{◌≡◌, true, ◌<◌, min};
 ghost use Rattle.frames.specs.Hex.{unhex};
 ghost use Rattle.frames.specs.Frames.{frame_of, framed};
@@ -11,7 +12,7 @@ pub mod hex;
 pub mod lines;
 
 // A kind of frame: its kind byte, the number of its lead bytes, which follow, and the number of its texts after those.
-#[derive(Drop)]
+#[derive(Clone, Copy)]
 pub struct Frame {
     pub kind: u8,
     pub lead: usize,
@@ -19,14 +20,14 @@ pub struct Frame {
 }
 
 // A text field of a frame: its rule, and whether length 0 is good there.
-#[derive(Drop)]
+#[derive(Clone, Copy)]
 pub struct Field {
     pub rule: text::Rule,
     pub may_be_empty: bool,
 }
 
 // Where a text stands in its line: the digits of its bytes, two a byte.
-#[derive(Drop)]
+#[derive(Clone, Copy)]
 pub struct TextPart {
     pub start: usize,
     pub length: usize,

@@ -2,6 +2,7 @@
 //
 //   row      the row of numbers, store by store
 //   mixes    what the row has of addresses
+#![tactic(auto)]
 
 pub mod mixes;
 pub mod row;
@@ -9,7 +10,7 @@ pub mod row;
 // ─── parts, and places in the row ───
 
 // The parts that elements play in what a message says, by number.
-#[derive(Drop)]
+#[derive(Clone, Copy)]
 pub struct Part(pub usize);
 
 impl Part {
@@ -58,7 +59,7 @@ impl Part {
 }
 
 // The numbers of a part, from its first on.
-#[derive(Drop)]
+#[derive(Clone, Copy)]
 pub struct Word(pub usize);
 
 impl Word {
@@ -79,7 +80,7 @@ impl Word {
 }
 
 // Where the row has the first faults, and the address that is open: two numbers for each.
-#[derive(Drop)]
+#[derive(Clone, Copy)]
 pub struct Slot(pub usize);
 
 impl Slot {

@@ -1,5 +1,6 @@
 // One look over a text of letters, with the rank of each byte at hand in a lent table: it finds a good text and its end at once. Of every other text it says
 // nothing, and its rule judges it.
+#![tactic(auto)]
 ghost use Rattle.std.specs.Prelude.{◌≡◌, ◌+◌, ◌≤◌, T, length, drop};
 ghost use Rattle.laws.specs.Bytes.{span};
 ghost use Rattle.marks.specs.Ranks.{at_least, ranked};
@@ -8,7 +9,7 @@ ghost use Rattle.look.specs.Look.{PlainLook, GoodLook};
 use text::Rule;
 
 // What one look says.
-#[derive(Drop)]
+#[derive(Clone, Copy)]
 pub enum Look {
     // The text ends here, and is good; it states no number.
     Good(usize),

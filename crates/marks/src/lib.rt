@@ -1,4 +1,5 @@
 // Single bytes and runs of them: the classes that document 01's text rules speak of, the letter set among them, patterns, and the numbers that bytes spell.
+#![tactic(auto)]
 ghost use Rattle.std.specs.Prelude.{◌≡◌, true, ◌≤◌, ◌<◌, ◌%◌, length};
 ghost use Rattle.laws.specs.Bytes.{between, all, span, same, has};
 ghost use Rattle.marks.specs.Classes.{of};
@@ -51,7 +52,7 @@ pub fn is_letter_or_digit(c: u8) -> bool
 }
 
 // A class of which a run may stand in a text.
-#[derive(Drop)]
+#[derive(Clone, Copy)]
 pub enum Class {
     Digit,
     CapitalOrDigit,

@@ -1,12 +1,13 @@
 // What a message says: its events with what their texts state, its batches, transactions and addresses, the stages of the check, and the rows of the tables. The definitions
 // are in specs/.
+#![tactic(auto)]
 ghost use Rattle.std.specs.Prelude.{◌≡◌};
 ghost use Rattle.message.specs.Addresses.{good_mix};
 
 use text::Judged;
 
 // An event with what its text is judged. White space between elements is judged good.
-#[derive(Drop)]
+#[derive(Clone, Copy)]
 pub struct Told {
     pub part: usize,
     pub place: usize,
@@ -16,7 +17,7 @@ pub struct Told {
 }
 
 // Which of the parts stand in a postal address: a street, a number or a post code; a town; a country; a line.
-#[derive(Drop)]
+#[derive(Clone, Copy)]
 pub struct Address {
     pub detail: bool,
     pub town: bool,

@@ -1,4 +1,5 @@
 // The ranks of all bytes and the tree of a direct debit message as a table. tools/plan prints it.
+#![tactic(auto)]
 ghost use Rattle.std.specs.Prelude.{T};
 ghost use Rattle.marks.specs.Ranks.{ranked};
 ghost use Rattle.tree.specs.Pain008.{document};
@@ -100,10 +101,10 @@ const TABLE: [u8; 2025] = *b"\
     \xc7\x07\x09\x0a\x00\x00\x4e\xff\x4c\
     \xf9\x05\x04\x05\x12\x00\xff\xff\x4d\
     \xda\x07\x07\x08\x0e\x00\xff\xff\x4e\
-    <document xmlns=\"urn:iso:std:iso:20022:tech:xsd:pain.008.001.08\"></document>\
+    <Document xmlns=\"urn:iso:std:iso:20022:tech:xsd:pain.008.001.08\"></Document>\
     <CstmrDrctDbtInitn></CstmrDrctDbtInitn>\
-    <grp_hdr></grp_hdr>\
-    <pmt_inf></pmt_inf>\
+    <GrpHdr></GrpHdr>\
+    <PmtInf></PmtInf>\
     <MsgId></MsgId>\
     <CreDtTm></CreDtTm>\
     <NbOfTxs></NbOfTxs>\
@@ -112,19 +113,19 @@ const TABLE: [u8; 2025] = *b"\
     <PmtInfId></PmtInfId>\
     <PmtMtd></PmtMtd>\
     <BtchBookg></BtchBookg>\
-    <pmt_tp_inf></pmt_tp_inf>\
+    <PmtTpInf></PmtTpInf>\
     <ReqdColltnDt></ReqdColltnDt>\
     <Cdtr></Cdtr>\
     <CdtrAcct></CdtrAcct>\
     <CdtrAgt></CdtrAgt>\
     <ChrgBr></ChrgBr>\
-    <cdtr_schme_id></cdtr_schme_id>\
-    <drct_dbt_tx_inf></drct_dbt_tx_inf>\
+    <CdtrSchmeId></CdtrSchmeId>\
+    <DrctDbtTxInf></DrctDbtTxInf>\
     <Nm></Nm>\
     <SvcLvl></SvcLvl>\
     <LclInstrm></LclInstrm>\
     <SeqTp></SeqTp>\
-    <pstl_adr></pstl_adr>\
+    <PstlAdr></PstlAdr>\
     <Id></Id>\
     <FinInstnId></FinInstnId>\
     <PmtId></PmtId>\

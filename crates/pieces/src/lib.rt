@@ -4,6 +4,7 @@
 //   texts         a text of a line, alone or after a lead; a bank
 //   transaction   a transaction, from the line of its collection
 //   head          a batch before its first transaction; a message before its first batch
+#![tactic(auto)]
 pub mod head;
 pub mod texts;
 pub mod transaction;

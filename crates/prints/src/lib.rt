@@ -1,4 +1,5 @@
 // Printed words and numbers, and a refusal as a line.
+#![tactic(auto)]
 use libc::STDOUT_FILENO;
 
 pub fn print(text: &[u8]) {

@@ -1,6 +1,7 @@
 // The profile's limits by name, the standard's two quantities, what a batch declares, the running tally, and the refusals.
 //
 //   refusals   the papers' number, place and field of each refusal
+#![tactic(auto)]
 ghost use Rattle.std.specs.Prelude.{◌≡◌, ◌+◌, ◌^◌, ◌<◌};
 ghost use Rattle.profile.specs.Limits.{limits};
 ghost use Rattle.profile.specs.Totals.{count_differs, sum_differs, fresh_tally, with_transaction, closed, begun, totals};
@@ -10,22 +11,22 @@ pub mod refusals;
 // ─── the quantities ───
 
 // A number of transactions. It never stands where cents are meant.
-#[derive(Drop)]
+#[derive(Clone, Copy)]
 pub struct NumberOfTransactions(pub u64);
 
 // A sum of cents.
-#[derive(Drop)]
+#[derive(Clone, Copy)]
 pub struct ControlSum(pub u64);
 
 // What a batch or the header declares of its count: nothing, or a number.
-#[derive(Drop)]
+#[derive(Clone, Copy)]
 pub enum DeclaredCount {
     Absent,
     Count(NumberOfTransactions),
 }
 
 // What a batch or the header declares of its sum: nothing, or a number of cents. A declared 0 is not the same as none.
-#[derive(Drop)]
+#[derive(Clone, Copy)]
 pub enum DeclaredSum {
     Absent,
     Cents(ControlSum),
@@ -54,7 +55,7 @@ pub fn sum_differs(declared: DeclaredSum, sum: ControlSum) -> bool
 // ─── the running tally ───
 
 // A batch: the exact count and cents of its transactions, and what it declares.
-#[derive(Drop)]
+#[derive(Clone, Copy)]
 pub struct Batch {
     pub count: NumberOfTransactions,
     pub sum: ControlSum,
@@ -86,7 +87,7 @@ impl Batch {
 }
 
 // Where the numbers of a transaction stand in its slip.
-#[derive(Drop)]
+#[derive(Clone, Copy)]
 pub struct Slip(pub usize);
 
 impl Slip {
@@ -100,7 +101,7 @@ impl Slip {
 }
 
 // What an accepted message answers: its batches, transactions and cents.
-#[derive(Drop)]
+#[derive(Clone, Copy)]
 pub struct Totals {
     pub batches: u64,
     pub transactions: NumberOfTransactions,
@@ -108,7 +109,7 @@ pub struct Totals {
 }
 
 // The running tally: the batches that were begun, the transactions and cents of those before the open one, and its own count and cents.
-#[derive(Drop)]
+#[derive(Clone, Copy)]
 pub struct Tally {
     pub batches: u64,
     pub transactions: NumberOfTransactions,
@@ -196,7 +197,7 @@ impl Tally {
 // ─── the limits ───
 
 // The limits as one value, for whoever wants them together.
-#[derive(Drop)]
+#[derive(Clone, Copy)]
 pub struct Limits {
     pub bytes: usize,
     pub batches: u64,
@@ -207,7 +208,7 @@ pub struct Limits {
 }
 
 // The profile of a message: its limits by name, and the tally that a reading starts with.
-#[derive(Drop)]
+#[derive(Clone, Copy)]
 pub struct Profile {
     pub tally: Tally,
 }
@@ -272,7 +273,7 @@ impl Profile {
 // ─── the refusals ───
 
 // The kind of rule that a text breaks.
-#[derive(Drop)]
+#[derive(Clone, Copy)]
 pub enum Flaw {
     Length,
     Letter,
@@ -285,7 +286,7 @@ pub enum Flaw {
 }
 
 // Why a message is refused, with the place that the case has.
-#[derive(Drop)]
+#[derive(Clone, Copy)]
 pub enum Refusal {
     TooLong,
     NotOfTheForm(usize),
@@ -302,7 +303,7 @@ pub enum Refusal {
 }
 
 // Why a day list is refused, with the place that the case has; of a value its flaw, its line and its field.
-#[derive(Drop)]
+#[derive(Clone, Copy)]
 pub enum ListRefusal {
     TooLong,
     Ceiling,

@@ -1,4 +1,5 @@
 // What the check of a message comes to, as printed lines: `OK` with batches, transactions and cents, and a line `B` for each batch; or `NO` with number and place.
+#![tactic(auto)]
 ghost use Rattle.std.specs.Prelude.{◌≡◌, length};
 
 use answer::Checked;

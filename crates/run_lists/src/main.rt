@@ -1,6 +1,7 @@
 // Judges the lists that the arguments name, each `CEILING:NAME`, the ceiling in digits and the name of a file. Prints the argument, and what the list comes to:
 //   NO number place         the first refusal that is met; of a value NO number line field
 //   OK collections batches  and, for each batch in order, a line `B`: its number from 1, and its collections, counted from 1 in the list
+#![tactic(auto)]
 ghost use Rattle.std.specs.Prelude.{◌≡◌, ◌+◌, length};
 ghost use Rattle.daylist.specs.declared.JudgedList.TheVariants.{Good};
 ghost use Rattle.daylist.specs.Stages.{judged_list};

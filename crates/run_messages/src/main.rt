@@ -1,4 +1,5 @@
 // Checks each file that an argument names, and prints its name and what that comes to.
+#![tactic(auto)]
 
 // The file at a path; false where there is none.
 fn print_file(path: &[u8]) -> bool {

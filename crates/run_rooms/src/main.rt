@@ -1,5 +1,6 @@
 // The check of the message on standard input with tables that are too short by one number, and with tables that are just long enough. Both tables are printed
 // whole: a refusal leaves them as they were, and what stands after the last row stays.
+#![tactic(auto)]
 use libc::STDIN_FILENO;
 use profile::Profile;
 

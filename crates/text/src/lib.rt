@@ -5,6 +5,7 @@
 //   date     dates and times
 //   shape    IBAN, BICFI, creditor identifier, country
 //   code     the fixed codes
+#![tactic(auto)]
 ghost use Rattle.std.specs.Prelude.{◌≡◌};
 ghost use Rattle.text.specs.Rules.{judged};
 
@@ -16,14 +17,14 @@ pub mod shape;
 
 // What a text is judged: good, with the number that it states (a count, cents, yyyymmdd of a date, a code's place among its words; else 0), or of which kind
 // the first test is that it fails.
-#[derive(Drop)]
+#[derive(Clone, Copy)]
 pub enum Judged {
     Good(u64),
     Bad(profile::Flaw),
 }
 
 // The rules by name.
-#[derive(Drop)]
+#[derive(Clone, Copy)]
 pub enum Rule {
     // MsgId, PmtInfId, InstrId, EndToEndId, MndtId
     Identifier,

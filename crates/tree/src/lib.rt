@@ -1,7 +1,8 @@
 // The tree of a message: what a message of the form is, and what it says. The definitions are in specs/.
+#![tactic(auto)]
 
 // What stands between an element's opening tag and its first child or closing tag.
-#[derive(Drop)]
+#[derive(Clone, Copy)]
 pub enum Kind {
     // White space: the element holds elements.
     Holds,
@@ -10,7 +11,7 @@ pub enum Kind {
 }
 
 // What an element of a message says.
-#[derive(Drop)]
+#[derive(Clone, Copy)]
 pub struct Event {
     // The part that the element plays: 0 for none.
     pub part: usize,

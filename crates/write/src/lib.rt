@@ -1,6 +1,7 @@
 // The writer: the message that document 01 fixes for a day list and a ceiling.
 //
 //   message   the message of a list whose collections have their labels
+#![tactic(auto)]
 ghost use Rattle.std.specs.Prelude.{◌≡◌, ◌+◌, ◌≤◌, length};
 ghost use Rattle.profile.specs.Limits.{most_bytes};
 ghost use Rattle.daylist.specs.Stages.{judged_list};
@@ -14,7 +15,7 @@ use profile::{ListRefusal, Profile};
 pub mod message;
 
 // What comes of writing: the length of the message, or why there is none.
-#[derive(Drop)]
+#[derive(Clone, Copy)]
 pub enum Written {
     Length(usize),
     Refused(profile::ListRefusal),

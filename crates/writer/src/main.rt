@@ -2,6 +2,7 @@
 //   the message, with nothing after it
 //   NO number place   the first refusal that is met; of a value NO number line field
 //   TOO LONG          the list or its message has more than 65,536 bytes
+#![tactic(auto)]
 use libc::STDIN_FILENO;
 use prints::{print, print_list_refused};
 use profile::{ListRefusal, Profile};

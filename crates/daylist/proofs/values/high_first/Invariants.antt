@@ -1,0 +1,18 @@
+-- `daylist::values::high_first` meets its contract. The invariant: v is below its power of 256, and v with the bytes from `at` on is the number.
+use Rattle.daylist.proofs.Leads.{high_start, high_go, high_end, high_more, high_under}
+use Rattle.frames.proofs.Digits.{unhex-length}
+use Rattle.daylist.specs.Lead.{high_first, high_first_from}
+use Rattle.frames.specs.Hex.{unhex}
+use lib.ListN.{take, drop, get_or}
+use mathlib.Core.Path.{◌≡◌, sym, ◌∙◌}
+use native.Mathlib.Omega.{arith}
+use Prim.Native.Nat.{◌-◌, ◌<◌, ◌≤◌, ◌^◌, ◌+◌}
+use borrow.Author.Rules.{rules}
+use Rattle.daylist.proofs.values.high_first.Given as goal
+
+abbrev pub invariant-loop-at : goal.invariant-loop-at
+invariant-loop-at l = ((l.from ≤ l.at) × (l.v < 256 ^ (l.at - l.from)))
+    × (high_first (take l.count (drop l.from (unhex l.line))) ≡ high_first_from l.v (take (l.end - l.at) (drop l.at (unhex l.line))))
+
+abbrev pub decreases-loop-at : goal.decreases-loop-at
+decreases-loop-at l = l.end - l.at

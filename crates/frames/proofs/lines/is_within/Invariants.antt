@@ -1,0 +1,19 @@
+-- `frames::lines::is_within` meets its contract. The invariant: no byte is LF where none before i was and none from i on is.
+use Rattle.frames.specs.Lines.{not_end}
+use Rattle.frames.proofs.Seen.{seen-go, seen_end}
+use Rattle.laws.specs.Bytes.{all}
+use borrow.Author.Tests.{eq-eqb, ne_eqb}
+use mathlib.Core.Bool.{◌&&◌, and-true, and_false}
+use mathlib.Core.Logic.{⊎_elim}
+use mathlib.Core.Path.{◌≡◌, refl}
+use lib.Dec.{eqb}
+use lib.ListN.{length, drop, get_or}
+use Prim.Native.Nat.{◌-◌}
+use borrow.Author.Rules.{rules}
+use Rattle.frames.proofs.lines.is_within.Given as goal
+
+abbrev pub invariant-loop-i : goal.invariant-loop-i
+invariant-loop-i l = all not_end l.text ≡ (eqb l.ended 0 && all not_end (drop l.i l.text))
+
+abbrev pub decreases-loop-i : goal.decreases-loop-i
+decreases-loop-i l = length l.text - l.i

@@ -1,0 +1,17 @@
+-- `frames::lines::stretches` meets its contract. The invariant: the bytes before the first LF are `at` and those before the first LF of what is left.
+use Rattle.frames.specs.Lines.{not_end}
+use Rattle.frames.proofs.Seen.{span_stretch}
+use Rattle.laws.specs.Bytes.{span}
+use borrow.Author.Tests.{not-false}
+use lib.ListN.{length, drop}
+use mathlib.Core.Path.{◌≡◌, sym, ◌∙◌}
+use native.Mathlib.Omega.{arith}
+use Prim.Native.Nat.{◌+◌, ◌-◌, ◌≤◌}
+use borrow.Author.Rules.{rules}
+use Rattle.frames.proofs.lines.stretches.Given as goal
+
+abbrev pub invariant-loop-at : goal.invariant-loop-at
+invariant-loop-at l = (l.at ≤ length l.text) × (span not_end l.text ≡ l.at + span not_end (drop l.at l.text))
+
+abbrev pub decreases-loop-at : goal.decreases-loop-at
+decreases-loop-at l = length l.text - l.at

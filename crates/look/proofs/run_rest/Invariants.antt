@@ -1,0 +1,16 @@
+-- `look::run_rest` meets its contract. The invariant: what is left of the run ends where the whole does.
+use Prim.Native.Nat.{◌+◌, ◌-◌, ◌≤◌}
+use mathlib.Core.Path.{◌≡◌, refl, sym, ◌∙◌}
+use lib.ListN.{length, drop}
+use borrow.Author.Rules.{rules}
+use borrow.Author.Tests.{not-true, not-false}
+use Rattle.laws.specs.Bytes.{span}
+use Rattle.laws.proofs.Loops.{span-stop, span-go, span-end}
+use Rattle.marks.specs.Ranks.{at_least}
+use Rattle.look.proofs.run_rest.Given as goal
+
+abbrev pub invariant-loop-i : goal.invariant-loop-i
+invariant-loop-i l = (l.i ≤ length l.s) × (l.at + span (at_least l.least) (drop l.at l.s) ≡ l.i + span (at_least l.least) (drop l.i l.s))
+
+abbrev pub decreases-loop-i : goal.decreases-loop-i
+decreases-loop-i l = length l.s - l.i

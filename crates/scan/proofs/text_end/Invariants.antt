@@ -1,0 +1,17 @@
+-- `scan::text_end` meets its contract: what is to come from i on is what was to come from `at` on, over four bytes of a text at a time.
+use borrow.Author.Rules.{rules}
+use Prim.Native.Nat.{◌+◌, ◌-◌, ◌≤◌}
+use native.Mathlib.Omega.{arith}
+use mathlib.Core.Path.{◌≡◌, sym, ◌∙◌}
+use lib.ListN.{length, drop}
+use Rattle.laws.specs.Bytes.{span}
+use Rattle.laws.proofs.Loops.{span-stop}
+use Rattle.tree.specs.Form.{in_text}
+use Rattle.scan.proofs.Scans.{text_no, text_on}
+use Rattle.scan.proofs.text_end.Given as goal
+
+abbrev pub invariant-loop-i : goal.invariant-loop-i
+invariant-loop-i l = (l.i ≤ length l.s) × (l.at + span in_text (drop l.at l.s) ≡ l.i + span in_text (drop l.i l.s))
+
+abbrev pub decreases-loop-i : goal.decreases-loop-i
+decreases-loop-i l = length l.s - l.i
