@@ -8,7 +8,7 @@
 use Prim.Native.Nat.{ℕ, zero, suc, ◌≤◌}
 use native.Mathlib.Nat.{le_refl, le_trans}
 use native.Mathlib.Omega.{arith}
-use mathlib.Core.Bool.{Bool, true, false, ◌&&◌, and-true, and_false}
+use mathlib.Core.Bool.{Bool, true, false, ◌&&◌, and-true, and-false}
 use mathlib.Core.List.{List, [], ◌∷◌, map}
 use mathlib.Core.Path.{◌≡◌, refl, ap, sym, ◌∙◌}
 use lib.Dec.{T}
@@ -62,7 +62,7 @@ module _ {X K : Type 0} (terms : X → K) (eq : K → K → Bool) (d : Decides e
     where
       go : (z : Bool) → total (λ k. one (eq k (terms x) && z)) ks ≡ one z
       go true = count_ext (λ k. eq k (terms x) && true) (eq (terms x)) ks (λ k. and-true (eq k (terms x)) ∙ eq_sym eq d k (terms x)) ∙ h
-      go false = count_ext (λ k. eq k (terms x) && false) (λ k. false) ks (λ k. and_false (eq k (terms x))) ∙ total-zero ks
+      go false = count_ext (λ k. eq k (terms x) && false) (λ k. false) ks (λ k. and-false (eq k (terms x))) ∙ total-zero ks
 
   share : (p : X → Bool) (xs : List X) (ks : List K) → All (λ x. count (eq (terms x)) ks ≡ 1) xs → total (λ k. count (λ x. eq k (terms x) && p x) xs) ks ≡ count p xs
   share p [] ks h = total-zero ks

@@ -3,7 +3,7 @@
 --   spread        a sum over terms of how often each is among some labels is a sum over labels of how often each is among the terms
 use Prim.Native.Nat.{min}
 use native.Mathlib.Omega.{arith}
-use mathlib.Core.Bool.{Bool, false, not, ◌&&◌, not-and_self, and_false}
+use mathlib.Core.Bool.{Bool, false, not, ◌&&◌, not-and_self, and-false}
 use mathlib.Core.List.{List, [], ◌∷◌}
 use mathlib.Core.Path.{◌≡◌, refl, ap, sym, ◌∙◌}
 use mathlib.Core.Logic.{◌≢◌}
@@ -18,7 +18,7 @@ module _ {K : Type 0} (eq : K → K → Bool) (d : Decides eq) where
   gone j k i e = rw e (not-and_self (eq j i))
 
   stays : (j k i : K) → k ≢ j → (not (eq j i) && eq k i) ≡ eq k i
-  stays j k i n = eq_cases eq d (λ z. (not (eq j i) && z) ≡ z) k i (λ e. rw (eq_false eq d j i (λ f. n (e ∙ sym f)))) (λ _. and_false (not (eq j i)))
+  stays j k i n = eq_cases eq d (λ z. (not (eq j i) && z) ≡ z) k i (λ e. rw (eq_false eq d j i (λ f. n (e ∙ sym f)))) (λ _. and-false (not (eq j i)))
 
   pub firsts-once : (k : K) (ks : List K) → count (eq k) (firsts eq ks) ≡ min 1 (count (eq k) ks)
   firsts-once k [] = refl

@@ -13,7 +13,7 @@ use Prim.Native.Nat.{ℕ, zero, suc, ◌+◌, ◌-◌, ◌<◌, ◌≤◌, min}
 use native.Mathlib.Nat.{not-suc-le-zero, le_of_suc-le-suc}
 use native.Mathlib.Numerals.{add-one}
 use native.Mathlib.Omega.{arith}
-use mathlib.Core.Bool.{Bool, true, false, and_false}
+use mathlib.Core.Bool.{Bool, true, false, and-false}
 use mathlib.Core.Logic.{◌⊎◌, inl, inr}
 use mathlib.Core.List.{List, [], ◌∷◌, ◌++◌}
 use mathlib.Core.Path.{◌≡◌, refl, ap, sym, ◌∙◌}
@@ -113,7 +113,7 @@ module _ (n : ℕ) (s : Bytes) where
 module _ (f : Field) (s : Bytes) where
   pub field-text : (f.may_be_empty ≡ false) ⊎ (length s ≡ 0 → ⊥) → judged_field f s ≡ judged f.rule s
   field-text (inl e) = rw (e, judged_field)
-  field-text (inr d) = rw (ne_eqb (length s) 0 d, and_false f.may_be_empty, judged_field)
+  field-text (inr d) = rw (ne_eqb (length s) 0 d, and-false f.may_be_empty, judged_field)
 
 no_texts : (n : ℕ) (fs : List Field) → judged_texts fs (texts n []) ≡ []
 no_texts zero [] = refl

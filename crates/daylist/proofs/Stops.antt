@@ -10,7 +10,7 @@
 use Prim.Native.Nat.{ℕ, suc, ◌+◌, ◌-◌, ◌<◌, ◌≤◌}
 use native.Mathlib.Decide.{dec_lt}
 use native.Mathlib.Omega.{arith}
-use mathlib.Core.Bool.{Bool, true, false, ◌&&◌, and_false}
+use mathlib.Core.Bool.{Bool, true, false, ◌&&◌, and-false}
 use mathlib.Core.List.{List, [], ◌∷◌}
 use mathlib.Core.Path.{◌≡◌, ap, sym, ◌∙◌}
 use lib.ListN.{length, take, drop, length-drop, drop_of_length-le}
@@ -82,7 +82,7 @@ module _ (s : Bytes) (c : ℕ) where
   list_ceiling_low h l = rw (le-leb (length s) most_bytes h, lt-leb 1 c l)
 
   pub list_ceiling_high : length s ≤ most_bytes → most_ceiling < c → Refused Ceiling ≡ judged_list s c
-  list_ceiling_high h l = rw (le-leb (length s) most_bytes h, lt-leb c most_ceiling l, and_false)
+  list_ceiling_high h l = rw (le-leb (length s) most_bytes h, lt-leb c most_ceiling l, and-false)
 
   pub list-lines : length s ≤ most_bytes → 1 ≤ c → c ≤ most_ceiling → judged_list s c ≡ judged_lines (lines s)
   list-lines h l m = rw (le-leb (length s) most_bytes h, le-leb 1 c l, le-leb c most_ceiling m)

@@ -5,7 +5,7 @@
 --   unhex-length, unhex-at       two digits are a byte: how many there are, and the one at a place
 use Prim.Native.Nat.{ℕ, zero, suc, ◌+◌, ◌-◌, ◌*◌, ◌/◌, ◌%◌, ◌<◌}
 use native.Mathlib.Omega.{arith}
-use mathlib.Core.Bool.{Bool, true, false, and_false}
+use mathlib.Core.Bool.{Bool, true, false, and-false}
 use mathlib.Core.List.{[], ◌∷◌}
 use mathlib.Core.Path.{◌≡◌, refl}
 use lib.ListN.{length, get_or}
@@ -17,7 +17,7 @@ use Rattle.frames.specs.Hex.{hex_digit, hex_value, hex, unhex}
 pub hex_odd : (s : Bytes) → (length s % 2 ≡ 0 → ⊥) → hex s ≡ false
 hex_odd [] d = absurd (d refl)
 hex_odd (a ∷ []) d = refl
-hex_odd (a ∷ b ∷ s) d = rw (hex_odd s (λ e. d (omega (arith, e))), and_false, and_false)
+hex_odd (a ∷ b ∷ s) d = rw (hex_odd s (λ e. d (omega (arith, e))), and-false, and-false)
 
 pub hex-all : (s : Bytes) → length s % 2 ≡ 0 → hex s ≡ all hex_digit s
 hex-all [] e = refl

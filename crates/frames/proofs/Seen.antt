@@ -5,7 +5,7 @@
 use Prim.Native.Nat.{ℕ, zero, suc, ◌+◌, ◌-◌, ◌<◌, ◌≤◌, max}
 use native.Mathlib.Nat.{not-suc-le-zero, le_of_suc-le-suc, max-zero, le-max_right}
 use native.Mathlib.Omega.{arith}
-use mathlib.Core.Bool.{Bool, true, ◌&&◌, and-true, and_false, and_assoc}
+use mathlib.Core.Bool.{Bool, true, ◌&&◌, and-true, and-false, and_assoc}
 use mathlib.Core.List.{[], ◌∷◌}
 use mathlib.Core.Path.{◌≡◌, ap, sym, ◌∙◌}
 use lib.Dec.{T, eqb}
@@ -25,7 +25,7 @@ module _ (p : ℕ → Bool) (s : Bytes) (i : ℕ) (a : Bool) (f : ℕ) where
 
 pub seen-max : (f y : ℕ) → eqb (max f y) 0 ≡ (eqb f 0 && eqb y 0)
 seen-max f zero = rw (max-zero f) (sym (and-true (eqb f 0)))
-seen-max f (suc y) = rw (ne_eqb (suc y) 0 (λ e. omega (arith, e)), and_false) (ne_eqb (max f (suc y)) 0 (λ e. omega (arith, e, le-max_right f (suc y))))
+seen-max f (suc y) = rw (ne_eqb (suc y) 0 (λ e. omega (arith, e)), and-false) (ne_eqb (max f (suc y)) 0 (λ e. omega (arith, e, le-max_right f (suc y))))
 
 module _ (p : ℕ → Bool) where
   pub span-skip : (n : ℕ) (s : Bytes) → n ≤ length s → T (all p (take n s)) → span p s ≡ n + span p (drop n s)

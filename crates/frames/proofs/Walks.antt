@@ -4,7 +4,7 @@
 --   holds-short, holds-over, holds-go, holds-end          there is no length byte; the text runs past the end; it is passed; none is left
 use Prim.Native.Nat.{ℕ, zero, suc, ◌+◌, ◌-◌, ◌<◌, ◌≤◌}
 use native.Mathlib.Omega.{arith}
-use mathlib.Core.Bool.{false, and_false}
+use mathlib.Core.Bool.{false, and-false}
 use mathlib.Core.List.{[], ◌∷◌}
 use mathlib.Core.Path.{◌≡◌, refl, ap, sym}
 use lib.Dec.{eqb}
@@ -43,7 +43,7 @@ module _ (f : Frame) where
 
   pub framed-lead : (s : Bytes) → length s - 1 < f.lead → framed f s ≡ false
   framed-lead [] h = refl
-  framed-lead (k ∷ s) h = rw (lt-leb f.lead (length s) (omega (arith, h)), and_false)
+  framed-lead (k ∷ s) h = rw (lt-leb f.lead (length s) (omega (arith, h)), and-false)
 
   pub framed-start : (s : Bytes) → 0 < length s → get_or s 0 0 ≡ f.kind → f.lead ≤ length s - 1 → framed f s ≡ holds f.texts (drop (1 + f.lead) s)
   framed-start [] l e h = absurd (omega (arith, l))

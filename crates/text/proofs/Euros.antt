@@ -10,7 +10,7 @@
 --   amount-bad, amount_low, amount_high, amount-good   an amount by its text, and by its cents
 use Prim.Native.Nat.{ℕ, suc, ◌+◌, ◌-◌, ◌*◌, ◌^◌, ◌≤◌, ◌<◌}
 use native.Mathlib.Omega.{arith}
-use mathlib.Core.Bool.{true, false, ◌&&◌, and_false}
+use mathlib.Core.Bool.{true, false, ◌&&◌, and-false}
 use mathlib.Core.List.{[], ◌∷◌}
 use mathlib.Core.Path.{◌≡◌, refl, sym, ◌∙◌}
 use lib.Dec.{T, eqb}
@@ -48,14 +48,14 @@ module _ (s : Bytes) (d : length s ≡ 0 → ⊥) where
   tail_point n = rw (decimals_open s d, ne_eqb (get_or s 0 0) 46 n)
 
   pub tail-short : length s < 2 → Bad Number ≡ tail s
-  tail-short h = rw (decimals_open s d, between-under 1 2 (length s - 1) (omega arith), and_false (eqb (get_or s 0 0) 46))
+  tail-short h = rw (decimals_open s d, between-under 1 2 (length s - 1) (omega arith), and-false (eqb (get_or s 0 0) 46))
 
   pub tail-long : 3 < length s → Bad Number ≡ tail s
-  tail-long h = rw (decimals_open s d, between-over 1 2 (length s - 1) (omega arith), and_false (eqb (get_or s 0 0) 46))
+  tail-long h = rw (decimals_open s d, between-over 1 2 (length s - 1) (omega arith), and-false (eqb (get_or s 0 0) 46))
 
   pub tail-other : (span digit (drop 1 s) ≡ length s - 1 → ⊥) → Bad Number ≡ tail s
   tail-other n =
-      rw (decimals_open s d, span-part digit (drop 1 s) (λ e. n (e ∙ length-drop 1 s)), and_false (between 1 2 (length s - 1)), and_false (eqb (get_or s 0 0) 46))
+      rw (decimals_open s d, span-part digit (drop 1 s) (λ e. n (e ∙ length-drop 1 s)), and-false (between 1 2 (length s - 1)), and-false (eqb (get_or s 0 0) 46))
 
   pub behind-all : span digit (drop 1 s) ≡ length s - 1 → all digit (drop 1 s) ≡ true
   behind-all e = span-whole digit (drop 1 s) (e ∙ sym (length-drop 1 s))
@@ -138,10 +138,10 @@ module _ (s : Bytes) (c : ℕ) (q : must (in_euros 9 s) Number (Good (cents s)) 
   told-cents = sym (good-is (in_euros 9 s) Number (cents s) c q)
 
   pub amount_low : c < 1 → Bad Number ≡ amount s
-  amount_low h = rw (between-under 1 most_cents (cents s) (rw told-cents at h), and_false (in_euros 9 s))
+  amount_low h = rw (between-under 1 most_cents (cents s) (rw told-cents at h), and-false (in_euros 9 s))
 
   pub amount_high : most_cents < c → Bad Number ≡ amount s
-  amount_high h = rw (between-over 1 most_cents (cents s) (rw told-cents at h), and_false (in_euros 9 s))
+  amount_high h = rw (between-over 1 most_cents (cents s) (rw told-cents at h), and-false (in_euros 9 s))
 
   pub amount-good : 1 ≤ c → c ≤ most_cents → Good c ≡ amount s
   amount-good l h = rw (must-test (in_euros 9 s) Number (Good (cents s)) c q, between_in 1 most_cents (cents s) (rw told-cents at l) (rw told-cents at h), told-cents)

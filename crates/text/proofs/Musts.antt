@@ -3,7 +3,7 @@
 --   must-test, good-is                        where a good judgement comes out, the test held, and the number stated is the one that comes out
 --   bad-stays                                 where a bad one comes out, it does so of each test that fails with this one
 use Prim.Native.Nat.{ℕ, ◌≤◌, ◌<◌}
-use mathlib.Core.Bool.{Bool, true, false, and_false}
+use mathlib.Core.Bool.{Bool, true, false, and-false}
 use mathlib.Core.Path.{◌≡◌, refl, sym}
 use borrow.Author.Tests.{le-leb, lt-leb}
 use Rattle.laws.specs.Bytes.{between}
@@ -17,7 +17,7 @@ module _ (a b c : ℕ) where
   between-under h = rw (lt-leb a c h)
 
   pub between-over : b < c → between a b c ≡ false
-  between-over h = rw (lt-leb c b h, and_false)
+  between-over h = rw (lt-leb c b h, and-false)
 
   pub between_in : a ≤ c → c ≤ b → between a b c ≡ true
   between_in l h = rw (le-leb a c l, le-leb c b h)

@@ -6,7 +6,7 @@
 --   fits_differ                     a text that fits a pattern is no word of another length
 use Prim.Native.Nat.{ℕ, ◌-◌, ◌≤◌, ◌<◌, ◌%◌}
 use native.Mathlib.Omega.{arith}
-use mathlib.Core.Bool.{Bool, true, false, ◌&&◌, ◌||◌, and_false, or-true}
+use mathlib.Core.Bool.{Bool, true, false, ◌&&◌, ◌||◌, and-false, or-true}
 use mathlib.Core.List.{◌++◌}
 use mathlib.Core.Path.{◌≡◌, sym, ◌∙◌}
 use lib.Dec.{T, eqb}
@@ -45,7 +45,7 @@ class_letters LetterOrDigit c t = t
 
 module _ (p : Bytes) (m : ℕ) (q : ℕ → Bool) (s : Bytes) where
   no_rest : between 1 m (length (drop (length p) s)) ≡ false → shaped p m q s ≡ false
-  no_rest e = rw (e, and_false (fits p (take (length p) s)))
+  no_rest e = rw (e, and-false (fits p (take (length p) s)))
 
   pub shaped-short : length s ≤ length p → shaped p m q s ≡ false
   shaped-short h = no_rest (between-under 1 m (length (drop (length p) s)) (rw (length-drop (length p) s) (omega arith)))

@@ -3,7 +3,7 @@ use Rattle.frames.specs.Lines.{not_end}
 use Rattle.frames.proofs.Seen.{seen-go, seen_end}
 use Rattle.laws.specs.Bytes.{all}
 use borrow.Author.Tests.{eq-eqb, ne_eqb}
-use mathlib.Core.Bool.{◌&&◌, and-true, and_false}
+use mathlib.Core.Bool.{◌&&◌, and-true, and-false}
 use mathlib.Core.Logic.{⊎_elim}
 use mathlib.Core.Path.{◌≡◌, refl}
 use lib.Dec.{eqb}
