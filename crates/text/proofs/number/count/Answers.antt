@@ -1,4 +1,3 @@
--- `text::number::count` meets its contract. Its bytes are all digits where the digits at the front are as many as its bytes.
 use mathlib.Core.Bool.{true, and-false}
 use mathlib.Core.Path.{◌≡◌, sym, ◌∙◌}
 use borrow.Author.Rules.{rules}
