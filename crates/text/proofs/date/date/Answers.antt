@@ -1,13 +1,8 @@
-use Prim.Native.Nat.{◌<◌}
-use native.Mathlib.Omega.{arith}
 use mathlib.Core.Bool.{true, and-false}
 use mathlib.Core.Path.{◌≡◌, sym, ◌∙◌}
-use borrow.Author.Rules.{rules}
-use borrow.Author.Tests.{not-true, not-false}
 use Rattle.laws.specs.Bytes.{Bytes, ascii}
 use Rattle.marks.specs.Marks.{fits}
 use Rattle.text.specs.Rules.{value_at, real_day}
-use Rattle.text.proofs.Days.{part-there, part-under}
 use Rattle.text.proofs.date.date.Goals as goal
 use Rattle.text.proofs.date.date.Goals.{After-is_real_day, Else-not-has_shape}
 

@@ -1,13 +1,5 @@
-use mathlib.Core.Bool.{true}
-use mathlib.Core.Path.{◌≡◌, sym, ◌∙◌, ap}
-use lib.ListN.{take, drop}
-use lib.Seq.{length-take-le}
-use borrow.Author.Rules.{rules}
-use Rattle.laws.specs.Bytes.{Bytes}
-use Rattle.laws.proofs.Loops.{drop-part}
-use Rattle.text.specs.Rules.{dated, clock}
-use Rattle.text.proofs.Musts.{must-test}
-use Rattle.text.proofs.Days.{short-date, time-bad}
+use mathlib.Core.Path.{sym, ◌∙◌}
+use Rattle.text.proofs.Days.{time-bad}
 use Rattle.text.proofs.date.time.Goals as goal
 
 pub returns-in-Bad : goal.returns-in-Bad

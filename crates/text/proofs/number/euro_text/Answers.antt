@@ -1,13 +1,10 @@
-use Prim.Native.Nat.{ℕ, ◌+◌, ◌*◌, ◌^◌, ◌<◌, ◌≤◌}
+use Prim.Native.Nat.{◌+◌, ◌*◌, ◌^◌, ◌<◌, ◌≤◌}
 use native.Mathlib.Omega.{arith}
 use mathlib.Core.Path.{◌≡◌, sym, ◌∙◌, ap}
 use lib.ListN.{length, drop}
 use lib.Seq.{length-take-le}
-use borrow.Author.Rules.{rules}
-use Rattle.laws.specs.Bytes.{Bytes}
 use Rattle.laws.proofs.Loops.{drop-part}
-use Rattle.text.specs.declared.Judged.TheVariants.{Good}
-use Rattle.text.proofs.Euros.{tail, whole_le, whole-digits, euros-few, euros-many, euros-bad, euros-good, euros-under}
+use Rattle.text.proofs.Euros.{tail, whole_le, whole-digits, euros-bad, euros-under}
 use Rattle.text.proofs.number.euro_text.Goals as goal
 use Rattle.text.proofs.number.euro_text.Goals.{After-behind_point, After-digits-n, After-number}
 

@@ -1,9 +1,7 @@
 use native.Mathlib.Omega.{arith}
 use mathlib.Core.Bool.{true}
 use mathlib.Core.Path.{◌≡◌, sym, ◌∙◌}
-use borrow.Author.Rules.{rules}
-use borrow.Author.Tests.{not-true, not-false}
-use Rattle.laws.specs.Bytes.{Bytes, ascii}
+use Rattle.laws.specs.Bytes.{ascii}
 use Rattle.marks.specs.declared.Class.TheVariants.{CapitalOrDigit}
 use Rattle.marks.specs.Marks.{capital_or_digit}
 use Rattle.text.specs.Shapes.{shaped}
@@ -15,8 +13,7 @@ is-shaped : (c : Else-not-is_shaped) → shaped (ascii "AADDNNN") 28 capital_or_
 is-shaped c = sym c.is_shaped.ensures ∙ c.if-not-is_shaped.false
 
 pub leaves_one-requires : goal.leaves_one-requires
-leaves_one-requires c =
-    (
+leaves_one-requires c = (
   omega arith,
   omega (arith, shaped_longer (ascii "AADDNNN") 28 capital_or_digit c.args.text.now (is-shaped (goal.at.leaves_one-requires c).Else-not-is_shaped)),
   shaped-letters (ascii "AADDNNN") 28 CapitalOrDigit c.args.text.now tt (is-shaped (goal.at.leaves_one-requires c).Else-not-is_shaped),

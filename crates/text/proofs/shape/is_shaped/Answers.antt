@@ -1,10 +1,7 @@
 use mathlib.Core.Path.{sym, ◌∙◌}
-use lib.Seq.{length-take-le}
 use native.Mathlib.Omega.{arith}
-use borrow.Author.Rules.{rules}
-use borrow.Author.Tests.{not-true, not-false}
 use Rattle.marks.specs.Classes.{of}
-use Rattle.text.proofs.Shapes.{shaped-short, shaped-long, shaped-front, shaped-run}
+use Rattle.text.proofs.Shapes.{shaped-run}
 use Rattle.text.proofs.shape.is_shaped.Goals as goal
 
 pub returns : goal.returns

@@ -1,8 +1,5 @@
 use native.Mathlib.Nat.{mod-lt}
 use native.Mathlib.Omega.{arith}
-use mathlib.Core.Path.{sym}
-use lib.Seq.{length-take-le}
-use borrow.Author.Rules.{rules}
 use Rattle.marks.specs.Marks.{letter_or_digit}
 use Rattle.marks.proofs.Classes.{class_part}
 use Rattle.text.proofs.Shapes.{leaves-twice}
