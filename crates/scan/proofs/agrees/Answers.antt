@@ -1,10 +1,5 @@
-use Prim.Native.Nat.{◌+◌, ◌-◌, ◌≤◌}
-use mathlib.Core.Path.{◌≡◌}
 use native.Mathlib.Omega.{arith}
-use native.Mathlib.Nat.{add-zero, zero-add}
-use lib.ListN.{length, drop}
-use Rattle.tree.specs.Form.{common}
-use Rattle.scan.proofs.Scans.{common-go, common-miss, common-out, common-whole}
+use Rattle.scan.proofs.Scans.{common-whole}
 use Rattle.scan.proofs.agrees.Goals as goal
 
 pub returns : goal.returns

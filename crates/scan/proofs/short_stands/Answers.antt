@@ -1,10 +1,9 @@
-use Prim.Native.Nat.{ℕ, ◌-◌}
+use Prim.Native.Nat.{◌-◌}
 use native.Mathlib.Nat.{add-zero}
 use native.Mathlib.Omega.{arith}
-use mathlib.Core.Path.{◌≡◌, sym, ◌∙◌}
+use mathlib.Core.Path.{sym, ◌∙◌}
 use borrow.Author.Tests.{eqb-true}
 use Rattle.scan.proofs.Words.{alike-none, alike_on, alike_stands}
-use borrow.Author.Rules.{rules}
 use Rattle.scan.proofs.short_stands.Goals as goal
 
 pub returns : goal.returns

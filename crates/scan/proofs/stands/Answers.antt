@@ -1,9 +1,8 @@
-use Prim.Native.Nat.{ℕ, ◌+◌, ◌-◌}
+use Prim.Native.Nat.{◌+◌, ◌-◌}
 use native.Mathlib.Omega.{arith}
-use mathlib.Core.Path.{◌≡◌, sym, ◌∙◌}
-use borrow.Author.Rules.{rules}
+use mathlib.Core.Path.{sym, ◌∙◌}
 use borrow.Author.Tests.{eqb-true}
-use Rattle.scan.proofs.Words.{Alike, alike-none, alike_on, alike_stands}
+use Rattle.scan.proofs.Words.{alike_on, alike_stands}
 use Rattle.scan.proofs.stands.Goals as goal
 
 pub loop-i-preserved : goal.loop-i-preserved

@@ -1,5 +1,4 @@
 use native.Mathlib.Omega.{arith}
-use borrow.Author.Rules.{rules}
 use Rattle.scan.proofs.Words.{four}
 use Rattle.scan.proofs.word_at.Goals as goal
 
