@@ -1,5 +1,4 @@
 use Rattle.answer.proofs.Answers.{answered}
-use borrow.Author.Rules.{rules}
 use Rattle.answer.proofs.answer.Goals as goal
 
 pub returns : goal.returns

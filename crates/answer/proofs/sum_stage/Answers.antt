@@ -1,8 +1,7 @@
 use mathlib.Core.Path.{ap, ◌∙◌}
 use Rattle.profile.specs.Totals.{sum_differs}
 use Rattle.profile.specs.declared.DeclaredSum.{DeclaredSum}
-use Rattle.answer.proofs.Answers.{same, other}
-use borrow.Author.Rules.{rules}
+use Rattle.answer.proofs.Answers.{other}
 use Rattle.heard.specs.Row.{row_of}
 use Rattle.answer.proofs.sum_stage.Goals as goal
 

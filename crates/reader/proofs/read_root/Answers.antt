@@ -8,7 +8,6 @@ use Rattle.plan.proofs.Finds.{is_whole, whole_in}
 use Rattle.plan.proofs.Held.{known_in}
 use Rattle.reader.proofs.Going.{fine-ended}
 use Rattle.reader.proofs.Roots.{root-missed, root-lost, root-more, root-done}
-use borrow.Author.Rules.{rules}
 use Rattle.reader.proofs.read_root.Goals as goal
 
 pub opens-requires : goal.opens-requires
@@ -35,7 +34,7 @@ returns-then-end-s-clause-exact c =
     let a = c.args in
     let r = c.read_element in
     λ root h. root-more a.t.now root h a.s.now _ _ _ c.white_end-at.ensures _ (sym c.opens.ensures ∙ c.in-Whole.is) _ r.result r.new.heard r.new.slips r.new.rows
-        (r.ensures.exact root h) _ _ _ c.in-Ended.is c.white_end-end.ensures c.if-end-s.true _ c.later-then-end-s.ensures
+    (r.ensures.exact root h) _ _ _ c.in-Ended.is c.white_end-end.ensures c.if-end-s.true _ c.later-then-end-s.ensures
 
 pub returns-in-Part-clause-exact : goal.returns-in-Part-clause-exact
 unfolding Answers
@@ -49,7 +48,7 @@ returns-in-Stuck-clause-exact c =
     let a = c.args in
     let r = c.read_element in
     λ root h. root-lost a.t.now root h a.s.now _ _ _ c.white_end-at.ensures _ (sym c.opens.ensures ∙ c.in-Whole.is) _ r.result r.new.heard r.new.slips r.new.rows
-        (r.ensures.exact root h) _ c.in-Stuck.is _ c.later-in-Stuck.ensures
+    (r.ensures.exact root h) _ c.in-Stuck.is _ c.later-in-Stuck.ensures
 
 pub returns-else-end-s-clause-within : goal.returns-else-end-s-clause-within
 returns-else-end-s-clause-within c =
@@ -62,4 +61,4 @@ returns-else-end-s-clause-exact c =
     let a = c.args in
     let r = c.read_element in
     λ root h. root-done a.t.now root h a.s.now _ _ _ c.white_end-at.ensures _ (sym c.opens.ensures ∙ c.in-Whole.is) _ r.result r.new.heard r.new.slips r.new.rows
-        (r.ensures.exact root h) _ _ _ c.in-Ended.is c.white_end-end.ensures c.if-end-s.false
+    (r.ensures.exact root h) _ _ _ c.in-Ended.is c.white_end-end.ensures c.if-end-s.false

@@ -1,7 +1,6 @@
-use Prim.Native.Nat.{ℕ, ◌+◌, ◌-◌}
+use Prim.Native.Nat.{ℕ, ◌-◌}
 use native.Mathlib.Omega.{arith}
 use mathlib.Core.Path.{refl, ap, sym, ◌∙◌}
-use lib.ListN.{length}
 use borrow.Author.Rules.{rules}
 use Rattle.tree.specs.Form.{white}
 use Rattle.scan.proofs.Scans.{run_in}
@@ -50,7 +49,7 @@ pub read_children-returns-then-other-k-clause-exact : goal.read_children-returns
 read_children-returns-then-other-k-clause-exact t c =
     let a = c.args in
     λ d h. sym (going-stuck a.t.now a.s.now _ d _ _ _ _ c.loop-k-test.true _ (sym c.opens.ensures ∙ c.in-Part.is) _ c.number-other.ensures.0 c.if-other-k.true _
-        c.later-far.ensures (c.loop-k.invariant.going d h))
+    c.later-far.ensures (c.loop-k.invariant.going d h))
 
 pub read_children-loop-k-preserved-in-Part : goal.read_children-loop-k-preserved-in-Part
 read_children-loop-k-preserved-in-Part t c =
@@ -110,22 +109,24 @@ read_children-loop-k-preserved-in-To t c =
     let stands = sym c.opens.ensures ∙ c.in-Whole.is in
     let kind = sym c.kind_at.ensures ∙ c.in-Text.is in
     text-turn _ _ _ _ _ _ _ _ _ _ _ _ _ _ _ c.loop-k.invariant c.loop-k-test.true _ stands _ kind _ _ c.read_text.ensures _ c.in-To.is _ _ c.number-k-in-To.ensures.0
-        c.white_end-at.ensures (search rules)
+    c.white_end-at.ensures (search rules)
 
 pub read_children-read_element-requires : goal.read_children-read_element-requires
 read_children-read_element-requires t c =
     let k = c.loop-k.invariant in
     let p = c.requires in
-    let o = sym c.opens.ensures ∙ c.in-Whole.is in
-    (omega arith, record {
-      short = p.short;
-      known = kept-known _ _ _ _ _ _ _ _ _ _ _ _ _ _ _ k c.loop-k-test.true;
-      holds = sym c.kind_at.ensures ∙ c.in-Holds.is;
-      behind = (is_whole _ _ _ _ o).1;
-      room = whole_in _ _ _ _ k.inside o;
-      long = k.heard-long ∙ p.long;
-      bounds = k.bounds;
-    })
+    let o = sym c.opens.ensures ∙ c.in-Whole.is in (
+      omega arith,
+      record {
+        short = p.short;
+        known = kept-known _ _ _ _ _ _ _ _ _ _ _ _ _ _ _ k c.loop-k-test.true;
+        holds = sym c.kind_at.ensures ∙ c.in-Holds.is;
+        behind = (is_whole _ _ _ _ o).1;
+        room = whole_in _ _ _ _ k.inside o;
+        long = k.heard-long ∙ p.long;
+        bounds = k.bounds;
+      },
+    )
 
 pub read_children-returns-in-Stuck-read_element-clause-exact : goal.read_children-returns-in-Stuck-read_element-clause-exact
 read_children-returns-in-Stuck-read_element-clause-exact t c =
@@ -140,14 +141,14 @@ pub read_children-loop-k-preserved : goal.read_children-loop-k-preserved
 read_children-loop-k-preserved t c =
     let stands = sym c.opens.ensures ∙ c.in-Whole.is in
     element-turn _ _ _ _ _ _ _ _ _ _ _ _ _ _ _ c.loop-k.invariant c.loop-k-test.true _ stands _ _ _ _ c.read_element.ensures.exact _ _ c.in-Ended.is
-        c.read_element.ensures.within _ _ c.number-k-in-Ended.ensures.0 c.white_end-at-in-Ended.ensures (search rules) (search rules) (search rules)
+    c.read_element.ensures.within _ _ c.number-k-in-Ended.ensures.0 c.white_end-at-in-Ended.ensures (search rules) (search rules) (search rules)
 
 pub read_children-returns-in-Stuck-read_close-clause-exact : goal.read_children-returns-in-Stuck-read_close-clause-exact
 read_children-returns-in-Stuck-read_close-clause-exact t c =
     let a = c.args in
     let l = c.loop-k in
     λ d h. ap (λ (x : Gone). gone a.s.now x (state_of l.heard l.running l.slips l.rows)) (sym c.in-Stuck-read_close.is ∙ c.read_close.ensures)
-        ∙ going-close _ _ _ _ d _ _ _ _ h c.loop-k-test.false (l.invariant.going d h)
+    ∙ going-close _ _ _ _ d _ _ _ _ h c.loop-k-test.false (l.invariant.going d h)
 
 pub read_children-returns-in-To-read_close-clause-within : goal.read_children-returns-in-To-read_close-clause-within
 read_children-returns-in-To-read_close-clause-within t c =
@@ -162,7 +163,7 @@ read_children-returns-in-To-read_close-clause-exact t c =
     let a = c.args in
     let l = c.loop-k in
     λ d h. ap (λ (x : Gone). gone a.s.now x (state_of l.heard l.running l.slips l.rows)) (sym c.in-To-read_close.is ∙ c.read_close.ensures)
-        ∙ going-close _ _ _ _ d _ _ _ _ h c.loop-k-test.false (l.invariant.going d h)
+    ∙ going-close _ _ _ _ d _ _ _ _ h c.loop-k-test.false (l.invariant.going d h)
 
 -- ─── an element ───
 
@@ -181,21 +182,23 @@ read_element-read_children-requires t c =
     let p = c.requires in
     let a = c.args in
     let w = run_in _ _ _ _ p.room c.white_end-end.ensures in
-    let l = open_some _ _ (known_in _ _ p.known) in
-    (omega (arith, p.behind), record {
-      short = p.short;
-      known = p.known;
-      room = w.1;
-      long = search rules;
-      bounds = within_more (begin_fine a.t.now a.e p.known p.holds a.s.now a.at a.start _ _ _ _ _ _ _ _ _
-          (c.begin-next.ensures ∙ ap (λ (k : ℕ). step (state_of a.heard.now a.tally a.slips.now a.rows.now) (held_at k a.at a.start (c.white_end-end.result - a.start))) c.number-part.ensures.0)
-          (omega (arith, p.behind)) p.bounds) w.0;
-    })
+    let l = open_some _ _ (known_in _ _ p.known) in (
+      omega (arith, p.behind),
+      record {
+        short = p.short;
+        known = p.known;
+        room = w.1;
+        long = search rules;
+        bounds = within_more (begin_fine a.t.now a.e p.known p.holds a.s.now a.at a.start _ _ _ _ _ _ _ _ _
+            (c.begin-next.ensures ∙ ap (λ (k : ℕ). step (state_of a.heard.now a.tally a.slips.now a.rows.now) (held_at k a.at a.start (c.white_end-end.result - a.start))) c.number-part.ensures.0)
+            (omega (arith, p.behind)) p.bounds) w.0;
+      },
+    )
 
 pub read_element-returns-clause-exact : goal.read_element-returns-clause-exact
 read_element-returns-clause-exact t c =
     let p = c.requires in
     let a = c.args in
     begin_element a.t.now a.e p.known p.holds a.s.now a.at a.start _ _ _ _ _ _ _ _ _
-        (c.begin-next.ensures ∙ ap (λ (k : ℕ). step (state_of a.heard.now a.tally a.slips.now a.rows.now) (held_at k a.at a.start (c.white_end-end.result - a.start))) c.number-part.ensures.0)
-        p.behind c.white_end-end.ensures _ c.read_children.ensures.exact
+    (c.begin-next.ensures ∙ ap (λ (k : ℕ). step (state_of a.heard.now a.tally a.slips.now a.rows.now) (held_at k a.at a.start (c.white_end-end.result - a.start))) c.number-part.ensures.0)
+    p.behind c.white_end-end.ensures _ c.read_children.ensures.exact

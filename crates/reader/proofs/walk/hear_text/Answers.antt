@@ -1,10 +1,5 @@
-use native.Mathlib.Omega.{arith}
-use mathlib.Core.Path.{refl}
-use borrow.Author.Rules.{rules}
 use Rattle.tree.specs.Form.{in_text}
-use Rattle.events.proofs.Events.{told-good}
 use Rattle.scan.proofs.Scans.{run_in}
-use Rattle.look.proofs.Looks.{look_told}
 use Rattle.reader.proofs.walk.hear_text.Goals as goal
 
 pub text-requires : goal.text-requires

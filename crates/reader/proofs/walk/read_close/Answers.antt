@@ -1,6 +1,5 @@
 use Rattle.plan.proofs.Held.{known_in}
 use Rattle.reader.proofs.Closes.{close-stuck, close-ended}
-use borrow.Author.Rules.{rules}
 use Rattle.reader.proofs.walk.read_close.Goals as goal
 
 pub closes-requires : goal.closes-requires

@@ -1,13 +1,10 @@
-use Prim.Native.Nat.{ℕ, ◌-◌}
 use native.Mathlib.Omega.{arith}
 use mathlib.Core.Path.{sym, subst}
 use Rattle.tree.specs.Form.{in_text}
 use Rattle.events.specs.Events.{Plain}
 use Rattle.scan.proofs.Scans.{run_in}
 use Rattle.plan.proofs.Held.{known_in}
-use Rattle.reader.specs.Told.{TextHeard}
 use Rattle.reader.proofs.Elements.{plain-part}
-use borrow.Author.Rules.{rules}
 use Rattle.reader.proofs.walk.read_text.Goals as goal
 
 pub number-part-requires : goal.number-part-requires
