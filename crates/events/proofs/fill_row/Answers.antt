@@ -1,9 +1,7 @@
 use native.Mathlib.Omega.{arith}
-use mathlib.Core.Path.{ap, ◌∙◌}
-use lib.ListN.{length, length-append, length-set, length-take, length-drop}
+use mathlib.Core.Path.{◌∙◌}
 use Rattle.events.proofs.Columns.{row_lent}
 use Rattle.events.proofs.Ends.{terms-small, row-columns}
-use borrow.Author.Rules.{rules}
 use Rattle.events.proofs.fill_row.Goals as goal
 
 pub overflow_mul-row : goal.overflow_mul-row
@@ -14,5 +12,5 @@ overflow_add-row c = let t = terms-small c.args.heard.now c.args.tally _ _ c.req
 
 pub returns : goal.returns
 returns c =
-    row_lent c.args.row.now c.fill_columns.new.0 _ _ _ _ c.requires.0
+    row_lent c.args.row.now c.fill_columns.new.into _ _ _ _ c.requires.0
     ∙ row-columns c.args.heard.now c.args.tally _ _ _ c.number-scheme.ensures c.number-sequence.ensures c.fill_columns.ensures
