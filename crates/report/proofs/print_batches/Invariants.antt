@@ -1,7 +1,6 @@
 -- `report::print_batches` meets its contract: the place stays within the table, and the batches left get fewer.
 use Prim.Native.Nat.{◌≤◌, ◌-◌}
 use lib.ListN.{length}
-use borrow.Author.Rules.{rules}
 use Rattle.report.proofs.print_batches.Given as goal
 
 abbrev pub invariant-loop-k : goal.invariant-loop-k

@@ -1,7 +1,6 @@
 -- `run_rooms::print_table` meets its contract: the numbers left get fewer.
 use Prim.Native.Nat.{◌≤◌, ◌-◌}
 use lib.ListN.{length}
-use borrow.Author.Rules.{rules}
 use Rattle.run_rooms.proofs.print_table.Given as goal
 
 abbrev pub invariant-loop-i : goal.invariant-loop-i
