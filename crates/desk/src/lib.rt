@@ -1,5 +1,6 @@
-// The desk for programs in other languages: the check and the writer with C's calling convention. include/desk.h states them in C.
+// The desk for programs in other languages: the check and the writer, which answer in numbers. The crate desk_c gives both to C, and include/desk.h states them.
 #![tactic(auto)]
+
 ghost use Rattle.std.specs.Prelude.{◌≡◌, length};
 ghost use Rattle.answer.specs.Said.{said};
 ghost use Rattle.write.specs.Write.{answered, answer_for, output_for};
@@ -44,8 +45,7 @@ fn checked_numbers(checked: Checked) -> DeskChecked
 }
 
 // The check of a message: twelve numbers for each transaction into `slips`, eight for each batch into `rows`, only where it is accepted.
-#[unsafe(no_mangle)]
-pub extern "C" fn desk_check(message: &[u8], slips: &mut [u64], rows: &mut [u64]) -> DeskChecked
+pub fn desk_check(message: &[u8], slips: &mut [u64], rows: &mut [u64]) -> DeskChecked
     ensures { DeskChecks message.now slips.old rows.old result slips.new rows.new }
 {
     checked_numbers(checking::check(message, slips, rows))
@@ -81,8 +81,7 @@ fn written_numbers(written: Written) -> DeskWritten
 }
 
 // The message for a day list at a ceiling, into the front of `out`, only where there is room for all of it.
-#[unsafe(no_mangle)]
-pub extern "C" fn desk_write(list: &[u8], ceiling: u64, out: &mut [u8]) -> DeskWritten
+pub fn desk_write(list: &[u8], ceiling: u64, out: &mut [u8]) -> DeskWritten
     ensures value { result ≡ written_numbers (answer_for list.now ceiling (length out.old)) }
     ensures out_after { out.new ≡ output_for list.now ceiling out.old }
 {
