@@ -7,9 +7,15 @@ use Rattle.events.proofs.Events.{ended-none, ended_some, date-said}
 use borrow.Author.Rules.{rules}
 use Rattle.events.proofs.end_batch.Goals as goal
 
-pub returns : goal.returns
-returns c =
+pub returns-clause-rows : goal.returns-clause-rows
+returns-clause-rows c =
     let a = c.args in
-    let w = row_of a.heard-1.now in
-    ended_some w a.tally a.rows-1.now _ _ _ _ c.if-tally-eq0.false c.put_row.ensures (date-said a.heard-1.now _ c.number-date.ensures)
-    (c.note_batch.ensures ∙ ap (λ (b : Batch). with_fault w (fault_in b (w.said part.batch_count).start (w.said part.batch_sum).start)) c.batch_of-batch.ensures) c.end.ensures
+    let w = row_of a.heard.now in
+    (ended_some w a.tally a.rows.now _ _ _ _ c.if-tally-eq0.false c.put_row.ensures (date-said a.heard.now _ c.number-date.ensures)
+    (c.note_batch.ensures ∙ ap (λ (b : Batch). with_fault w (fault_in b (w.said part.batch_count).start (w.said part.batch_sum).start)) c.batch_of-batch.ensures) c.end.ensures).0
+pub returns-clause-heard : goal.returns-clause-heard
+returns-clause-heard c =
+    let a = c.args in
+    let w = row_of a.heard.now in
+    (ended_some w a.tally a.rows.now _ _ _ _ c.if-tally-eq0.false c.put_row.ensures (date-said a.heard.now _ c.number-date.ensures)
+    (c.note_batch.ensures ∙ ap (λ (b : Batch). with_fault w (fault_in b (w.said part.batch_count).start (w.said part.batch_sum).start)) c.batch_of-batch.ensures) c.end.ensures).1

@@ -14,5 +14,5 @@ overflow_add-row c = let t = terms-small c.args.heard.now c.args.tally _ _ c.req
 
 pub returns : goal.returns
 returns c =
-    row_lent c.args.row.now c.fill_columns.new.0 _ _ _ _ c.requires.0
+    row_lent c.args.row.now c.fill_columns.new.into _ _ _ _ c.requires.0
     ∙ row-columns c.args.heard.now c.args.tally _ _ _ c.number-scheme.ensures c.number-sequence.ensures c.fill_columns.ensures
