@@ -4,7 +4,6 @@ use Rattle.heard.specs.State.{step}
 use Rattle.heard.specs.Row.{state_of}
 use Rattle.events.specs.Events.{held_at}
 use Rattle.events.proofs.Events.{begins_address, begins_other}
-use borrow.Author.Rules.{rules}
 use Rattle.events.proofs.begin.Goals as goal
 
 pub returns-then-part-eq-ADDRESS : goal.returns-then-part-eq-ADDRESS

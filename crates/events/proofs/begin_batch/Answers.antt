@@ -1,6 +1,5 @@
 use Rattle.heard.specs.Row.{state_of}
-use Rattle.events.proofs.Events.{begin_fits, begins_batch}
-use borrow.Author.Rules.{rules}
+use Rattle.events.proofs.Events.{begins_batch}
 use Rattle.events.proofs.begin_batch.Goals as goal
 
 pub returns : goal.returns

@@ -1,5 +1,4 @@
 use Rattle.events.proofs.Events.{begins_transaction}
-use borrow.Author.Rules.{rules}
 use Rattle.events.proofs.begin_transaction.Goals as goal
 
 pub returns : goal.returns

@@ -1,12 +1,9 @@
-use Prim.Native.Nat.{◌+◌, ◌-◌, ◌*◌, ◌≤◌, ◌<◌}
+use Prim.Native.Nat.{◌+◌, ◌*◌}
 use native.Mathlib.Omega.{arith}
-use mathlib.Core.Path.{◌≡◌, sym, ◌∙◌}
-use lib.ListN.{length, get_or, drop, length-set}
-use Rattle.laws.specs.Put.{put_at}
+use mathlib.Core.Path.{sym, ◌∙◌}
+use lib.ListN.{get_or, length-set}
 use Rattle.laws.proofs.Puts.{put_all}
-use Rattle.tree.specs.Parts.{parts_end}
-use Rattle.events.proofs.Columns.{all-at, columns, length-columns, columns-step, columns-done}
-use borrow.Author.Rules.{rules}
+use Rattle.events.proofs.Columns.{columns, length-columns, columns-step, columns-done}
 use Rattle.events.proofs.fill_columns.Goals as goal
 
 pub loop-i-init : goal.loop-i-init

@@ -1,9 +1,7 @@
 use native.Mathlib.Omega.{arith}
-use mathlib.Core.Path.{ap, ◌∙◌}
-use lib.ListN.{length, length-append, length-set, length-take, length-drop}
+use mathlib.Core.Path.{◌∙◌}
 use Rattle.events.proofs.Columns.{row_lent}
 use Rattle.events.proofs.Ends.{terms-small, row-columns}
-use borrow.Author.Rules.{rules}
 use Rattle.events.proofs.fill_row.Goals as goal
 
 pub overflow_mul-row : goal.overflow_mul-row

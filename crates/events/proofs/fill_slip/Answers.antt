@@ -1,9 +1,6 @@
-use native.Mathlib.Omega.{arith}
-use Prim.Native.Nat.{ℕ, suc}
-use mathlib.Core.Path.{◌≡◌, ap, sym, ◌∙◌}
-use lib.ListN.{length, length-set}
+use mathlib.Core.Path.{ap, ◌∙◌}
+use lib.ListN.{length}
 use Rattle.events.proofs.Ends.{slip_lent, slip-columns}
-use borrow.Author.Rules.{rules}
 use Rattle.events.proofs.fill_slip.Goals as goal
 
 pub returns : goal.returns

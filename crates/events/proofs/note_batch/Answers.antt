@@ -1,5 +1,4 @@
-use Rattle.events.proofs.Ends.{noted-count, noted-sum, noted-none}
-use borrow.Author.Rules.{rules}
+use Rattle.events.proofs.Ends.{noted-count, noted-sum}
 use Rattle.events.proofs.note_batch.Goals as goal
 
 pub returns-then-count_differs : goal.returns-then-count_differs

@@ -1,6 +1,5 @@
 use mathlib.Core.Path.{refl}
-use Rattle.events.proofs.Columns.{put-none, put_lent}
-use borrow.Author.Rules.{rules}
+use Rattle.events.proofs.Columns.{put_lent}
 use Rattle.events.proofs.put_slip.Goals as goal
 
 pub returns : goal.returns

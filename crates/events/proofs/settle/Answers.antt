@@ -1,9 +1,9 @@
 use Rattle.events.proofs.Ends.{settled-closed, settled-some, add_fits}
-use borrow.Author.Rules.{rules}
 use Rattle.events.proofs.settle.Goals as goal
 
 pub returns-then-number-eq0-clause-tally : goal.returns-then-number-eq0-clause-tally
 returns-then-number-eq0-clause-tally c = (settled-closed c.args.heard.now c.args.tally c.args.slips.now _ c.number.ensures c.if-number-eq0.true).0
+
 pub returns-then-number-eq0-clause-slips : goal.returns-then-number-eq0-clause-slips
 returns-then-number-eq0-clause-slips c = (settled-closed c.args.heard.now c.args.tally c.args.slips.now _ c.number.ensures c.if-number-eq0.true).1
 
@@ -19,6 +19,7 @@ returns-clause-tally c =
     let if1 = c.if-tally-eq0 in
     (settled-some a.heard.now a.tally a.slips.now _ _ c.add_transaction.result c.put_slip.new.slips if1.false c.number.ensures c.if-number-eq0.false c.number-2.ensures c.add_transaction.ensures
     c.put_slip.ensures).0
+
 pub returns-clause-slips : goal.returns-clause-slips
 returns-clause-slips c =
     let a = c.args in

@@ -1,5 +1,4 @@
 use native.Mathlib.Omega.{arith}
-use borrow.Author.Rules.{rules}
 use Rattle.marks.proofs.Ranks.{ranks-long}
 use Rattle.look.proofs.Looks.{ranked-byte}
 use Rattle.look.proofs.is_ranked.Goals as goal

@@ -1,6 +1,5 @@
 use mathlib.Core.Path.{refl}
 use Rattle.text.specs.declared.Rule.TheVariants.{Name, Remittance, AddressLine, AddressCode, Town}
-use borrow.Author.Rules.{rules}
 use Rattle.look.proofs.Looks.{seen-identifier, seen_plain}
 use Rattle.look.proofs.look_at.Goals as goal
 

@@ -1,5 +1,4 @@
 use native.Mathlib.Omega.{arith}
-use borrow.Author.Rules.{rules}
 use Rattle.marks.specs.Ranks.{at_least}
 use Rattle.scan.proofs.Scans.{run_in}
 use Rattle.look.proofs.Looks.{plain-text}

@@ -1,6 +1,5 @@
 use mathlib.Core.Path.{◌∙◌}
 use Rattle.plan.proofs.Words.{close-is}
-use borrow.Author.Rules.{rules}
 use Rattle.plan.proofs.closes.Goals as goal
 
 pub returns : goal.returns

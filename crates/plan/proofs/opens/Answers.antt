@@ -1,6 +1,5 @@
 use mathlib.Core.Path.{◌∙◌}
 use Rattle.plan.proofs.Words.{open_is}
-use borrow.Author.Rules.{rules}
 use Rattle.plan.proofs.opens.Goals as goal
 
 pub returns : goal.returns

@@ -1,7 +1,6 @@
 use native.Mathlib.Omega.{arith}
 use Rattle.scan.proofs.Scans.{common_in}
 use Rattle.plan.proofs.Words.{word_stands, word-whole, word-part}
-use borrow.Author.Rules.{rules}
 use Rattle.plan.proofs.word_found.Goals as goal
 
 pub returns-then-stands : goal.returns-then-stands

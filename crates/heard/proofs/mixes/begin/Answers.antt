@@ -4,7 +4,6 @@ use Prim.Native.Nat.{ℕ}
 use Rattle.laws.specs.Put.{put_at}
 use Rattle.heard.specs.Row.{row_of, late_slot}
 use Rattle.heard.proofs.MixRows.{mixes-begun}
-use borrow.Author.Rules.{rules}
 use Rattle.heard.proofs.mixes.begin.Goals as goal
 
 pub returns : goal.returns

@@ -1,6 +1,5 @@
 use native.Mathlib.Omega.{arith}
 use Rattle.laws.proofs.Puts.{put_two}
-use borrow.Author.Rules.{rules}
 use Rattle.heard.proofs.mixes.clear.Goals as goal
 
 pub returns : goal.returns

@@ -1,7 +1,6 @@
 use mathlib.Core.Path.{ap, ◌∙◌}
 use Rattle.heard.specs.Row.{row_of}
 use Rattle.heard.proofs.MixRows.{address-closed}
-use borrow.Author.Rules.{rules}
 use Rattle.heard.proofs.mixes.close_address.Goals as goal
 
 pub returns : goal.returns

@@ -1,7 +1,6 @@
 use mathlib.Core.Bool.{true, false}
 use mathlib.Core.Path.{refl}
 use Rattle.heard.proofs.Rows.{absent, declared}
-use borrow.Author.Rules.{rules}
 use Rattle.heard.proofs.mixes.is_said.Goals as goal
 
 pub returns-then-number-eq0 : goal.returns-then-number-eq0

@@ -1,5 +1,4 @@
 use Rattle.heard.proofs.MixRows.{address-opened}
-use borrow.Author.Rules.{rules}
 use Rattle.heard.proofs.mixes.open_address.Goals as goal
 
 pub returns : goal.returns

@@ -1,5 +1,4 @@
-use Rattle.heard.proofs.Rows.{count_none, count-one}
-use borrow.Author.Rules.{rules}
+use Rattle.heard.proofs.Rows.{count-one}
 use Rattle.heard.proofs.row.count.Goals as goal
 
 pub returns : goal.returns

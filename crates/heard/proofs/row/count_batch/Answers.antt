@@ -1,7 +1,6 @@
 use mathlib.Core.Path.{ap, ◌∙◌}
 use Rattle.heard.specs.Row.{row_of}
 use Rattle.heard.proofs.Rows.{batch-counted}
-use borrow.Author.Rules.{rules}
 use Rattle.heard.proofs.row.count_batch.Goals as goal
 
 pub returns : goal.returns

@@ -1,6 +1,5 @@
 use Rattle.profile.specs.declared.DeclaredCount.TheVariants.{Count, Absent}
 use Rattle.heard.proofs.Rows.{absent, declared}
-use borrow.Author.Rules.{rules}
 use Rattle.heard.proofs.row.declared_count.Goals as goal
 
 pub returns-then-number-eq0 : goal.returns-then-number-eq0

@@ -1,6 +1,5 @@
 use Rattle.profile.specs.declared.DeclaredSum.TheVariants.{Cents, Absent}
 use Rattle.heard.proofs.Rows.{absent, declared}
-use borrow.Author.Rules.{rules}
 use Rattle.heard.proofs.row.declared_sum.Goals as goal
 
 pub returns-then-number-eq0 : goal.returns-then-number-eq0

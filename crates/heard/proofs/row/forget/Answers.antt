@@ -1,11 +1,7 @@
-use Prim.Native.Nat.{◌-◌, ◌*◌, ◌≤◌}
 use native.Mathlib.Omega.{arith}
-use mathlib.Core.Path.{◌≡◌, refl, ◌∙◌}
-use lib.ListN.{length, length-set, replicate}
-use Rattle.laws.specs.Put.{put_at}
-use Rattle.heard.specs.Row.{flaw_slot, heard_length}
+use mathlib.Core.Path.{◌∙◌}
+use lib.ListN.{length-set}
 use Rattle.heard.proofs.Rows.{zero-step, forgot_all}
-use borrow.Author.Rules.{rules}
 use Rattle.heard.proofs.row.forget.Goals as goal
 
 pub loop-i-preserved : goal.loop-i-preserved

@@ -1,5 +1,4 @@
-use Rattle.heard.proofs.Rows.{note_kept, note_put}
-use borrow.Author.Rules.{rules}
+use Rattle.heard.proofs.Rows.{note_put}
 use Rattle.heard.proofs.row.note.Goals as goal
 
 pub returns : goal.returns

@@ -1,7 +1,6 @@
 use mathlib.Core.Path.{ap, ◌∙◌}
 use Rattle.heard.specs.Row.{row_of}
 use Rattle.heard.proofs.Rows.{fault-noted}
-use borrow.Author.Rules.{rules}
 use Rattle.heard.proofs.row.note_fault.Goals as goal
 
 pub returns : goal.returns

@@ -2,7 +2,6 @@ use mathlib.Core.Path.{ap, ◌∙◌}
 use Prim.Native.Nat.{ℕ}
 use Rattle.heard.specs.Row.{row_of, noted, flaw_slot}
 use Rattle.heard.proofs.Rows.{flaw-noted}
-use borrow.Author.Rules.{rules}
 use Rattle.heard.proofs.row.note_flaw.Goals as goal
 
 pub returns : goal.returns

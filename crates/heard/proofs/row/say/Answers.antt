@@ -1,5 +1,4 @@
 use Rattle.heard.proofs.Rows.{said_lent}
-use borrow.Author.Rules.{rules}
 use Rattle.heard.proofs.row.say.Goals as goal
 
 pub returns : goal.returns
