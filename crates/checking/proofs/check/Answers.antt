@@ -10,14 +10,13 @@ pub returns-in-Refused : goal.returns-in-Refused
 returns-in-Refused c =
     let a = c.args in
     let pass = c.pass-checked in
-    check_refused a.message.now a.slips.now a.rows.now _ _ _ (subst (λ (r : Checked). Verdicts a.message.now (room_of a.slips.now a.rows.now) r) c.in-Refused.is pass.ensures.0) (lent_none a.slips.now pass.new.1.1.0 (search rules)) (lent_none a.rows.now pass.new.1.1.1.0 (search rules))
+    check_refused a.message.now a.slips.now a.rows.now _ _ _ (subst (λ (r : Checked). Verdicts a.message.now (room_of a.slips.now a.rows.now) r) c.in-Refused.is pass.ensures.verdict) (lent_none a.slips.now pass.new.a (search rules)) (lent_none a.rows.now pass.new.b (search rules))
 
 pub returns-in-Accepted : goal.returns-in-Accepted
 returns-in-Accepted c =
     let a = c.args in
     let pass = c.pass-checked in
-    let checked2 = c.checked-in-Accepted-1 in
-    check_accepted a.message.now a.slips.now a.rows.now _ _ _ (subst (λ (r : Checked). Verdicts a.message.now (room_of a.slips.now a.rows.now) r) checked2.given.1 pass.ensures.0)
+    check_accepted a.message.now a.slips.now a.rows.now _ _ _ (subst (λ (r : Checked). Verdicts a.message.now (room_of a.slips.now a.rows.now) r) c.in-Accepted.is pass.ensures.verdict)
     (filled_lent a.message.now a.slips.now a.rows.now _ _ _ _
-    (lent_none a.slips.now pass.new.1.1.0 (search rules))
-    (lent_none a.rows.now pass.new.1.1.1.0 (search rules)) c.pass.ensures.fills)
+    (lent_none a.slips.now pass.new.a (search rules))
+    (lent_none a.rows.now pass.new.b (search rules)) c.pass.ensures.fills)

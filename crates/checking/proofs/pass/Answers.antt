@@ -26,7 +26,7 @@ finish-totals-requires c =
     let fresh = c.fresh-heard in
     let fresh2 = c.fresh-fresh in
     let read = c.read in
-    (search rules, small a.message.now a.a.now a.b.now read.new.1.1.1.0 read.new.1.1.1.1.0 fresh.result read.new.1.1.0 fresh2.result.tally-1 read.result fresh.ensures fresh2.ensures (read.ensures.1 document profile_ok p.0) _ c.in-Read.is read.ensures.0)
+    (search rules, small a.message.now a.a.now a.b.now read.new.slips read.new.rows fresh.result read.new.heard fresh2.result.tally read.result fresh.ensures fresh2.ensures (read.ensures.right document profile_ok p.0) _ c.in-Read.is read.ensures.within)
 
 pub answer-requires : goal.answer-requires
 answer-requires c =
@@ -35,9 +35,8 @@ answer-requires c =
     let fresh = c.fresh-heard in
     let fresh2 = c.fresh-fresh in
     let read = c.read in
-    let tally = c.tally-1 in
     let finish = c.finish-totals in
-    (search rules, totals-fit a.message.now a.a.now a.b.now read.new.1.1.1.0 read.new.1.1.1.1.0 fresh.result read.new.1.1.0 fresh2.result.tally-1 read.result fresh.ensures fresh2.ensures (read.ensures.1 document profile_ok p.0) _ tally.given.1 read.ensures.0 _ _ _ _ finish.ensures)
+    (search rules, totals-fit a.message.now a.a.now a.b.now read.new.slips read.new.rows fresh.result read.new.heard fresh2.result.tally read.result fresh.ensures fresh2.ensures (read.ensures.right document profile_ok p.0) _ c.in-Read.is read.ensures.within _ _ _ _ finish.ensures)
 
 pub returns-in-TooLong-clause-verdict : goal.returns-in-TooLong-clause-verdict
 returns-in-TooLong-clause-verdict c =
@@ -46,7 +45,8 @@ returns-in-TooLong-clause-verdict c =
     let fresh = c.fresh-heard in
     let fresh2 = c.fresh-fresh in
     let read = c.read in
-    verdict-long a.message.now a.a.now a.b.now read.new.1.1.1.0 read.new.1.1.1.1.0 fresh.result read.new.1.1.0 fresh2.result.tally-1 read.result fresh.ensures fresh2.ensures (read.ensures.1 document profile_ok p.0) _ c.in-TooLong.is
+    verdict-long a.message.now a.a.now a.b.now read.new.slips read.new.rows fresh.result read.new.heard fresh2.result.tally read.result fresh.ensures fresh2.ensures (read.ensures.right document profile_ok p.0) _ c.in-TooLong.is
+
 pub returns-in-TooLong-clause-fills : goal.returns-in-TooLong-clause-fills
 returns-in-TooLong-clause-fills c =
     let a = c.args in
@@ -54,7 +54,7 @@ returns-in-TooLong-clause-fills c =
     let fresh = c.fresh-heard in
     let fresh2 = c.fresh-fresh in
     let read = c.read in
-    filled-long a.message.now a.a.now a.b.now read.new.1.1.1.0 read.new.1.1.1.1.0 fresh.result read.new.1.1.0 fresh2.result.tally-1 read.result fresh.ensures fresh2.ensures (read.ensures.1 document profile_ok p.0) _ _ c.in-TooLong.is
+    filled-long a.message.now a.a.now a.b.now read.new.slips read.new.rows fresh.result read.new.heard fresh2.result.tally read.result fresh.ensures fresh2.ensures (read.ensures.right document profile_ok p.0) _ _ c.in-TooLong.is
 
 pub returns-in-Stuck-clause-verdict : goal.returns-in-Stuck-clause-verdict
 returns-in-Stuck-clause-verdict c =
@@ -63,7 +63,8 @@ returns-in-Stuck-clause-verdict c =
     let fresh = c.fresh-heard in
     let fresh2 = c.fresh-fresh in
     let read = c.read in
-    verdict-stuck a.message.now a.a.now a.b.now read.new.1.1.1.0 read.new.1.1.1.1.0 fresh.result read.new.1.1.0 fresh2.result.tally-1 read.result fresh.ensures fresh2.ensures (read.ensures.1 document profile_ok p.0) _ _ c.in-Stuck.is
+    verdict-stuck a.message.now a.a.now a.b.now read.new.slips read.new.rows fresh.result read.new.heard fresh2.result.tally read.result fresh.ensures fresh2.ensures (read.ensures.right document profile_ok p.0) _ _ c.in-Stuck.is
+
 pub returns-in-Stuck-clause-fills : goal.returns-in-Stuck-clause-fills
 returns-in-Stuck-clause-fills c =
     let a = c.args in
@@ -71,7 +72,7 @@ returns-in-Stuck-clause-fills c =
     let fresh = c.fresh-heard in
     let fresh2 = c.fresh-fresh in
     let read = c.read in
-    filled-stuck a.message.now a.a.now a.b.now read.new.1.1.1.0 read.new.1.1.1.1.0 fresh.result read.new.1.1.0 fresh2.result.tally-1 read.result fresh.ensures fresh2.ensures (read.ensures.1 document profile_ok p.0) _ _ _ c.in-Stuck.is
+    filled-stuck a.message.now a.a.now a.b.now read.new.slips read.new.rows fresh.result read.new.heard fresh2.result.tally read.result fresh.ensures fresh2.ensures (read.ensures.right document profile_ok p.0) _ _ _ c.in-Stuck.is
 
 pub returns-in-Read-clause-verdict : goal.returns-in-Read-clause-verdict
 returns-in-Read-clause-verdict c =
@@ -80,9 +81,9 @@ returns-in-Read-clause-verdict c =
     let fresh = c.fresh-heard in
     let fresh2 = c.fresh-fresh in
     let read = c.read in
-    let tally = c.tally-1 in
     let finish = c.finish-totals in
-    verdict-judged a.message.now a.a.now a.b.now read.new.1.1.1.0 read.new.1.1.1.1.0 fresh.result read.new.1.1.0 fresh2.result.tally-1 read.result fresh.ensures fresh2.ensures (read.ensures.1 document profile_ok p.0) _ tally.given.1 _ _ _ _ finish.ensures _ _ c.answer.ensures
+    verdict-judged a.message.now a.a.now a.b.now read.new.slips read.new.rows fresh.result read.new.heard fresh2.result.tally read.result fresh.ensures fresh2.ensures (read.ensures.right document profile_ok p.0) _ c.in-Read.is _ _ _ _ finish.ensures _ _ c.answer.ensures
+
 pub returns-in-Read-clause-fills : goal.returns-in-Read-clause-fills
 returns-in-Read-clause-fills c =
     let a = c.args in
@@ -90,6 +91,5 @@ returns-in-Read-clause-fills c =
     let fresh = c.fresh-heard in
     let fresh2 = c.fresh-fresh in
     let read = c.read in
-    let tally = c.tally-1 in
     let finish = c.finish-totals in
-    filled a.message.now a.a.now a.b.now read.new.1.1.1.0 read.new.1.1.1.1.0 fresh.result read.new.1.1.0 fresh2.result.tally-1 read.result fresh.ensures fresh2.ensures (read.ensures.1 document profile_ok p.0) _ tally.given.1 _ _ _ _ finish.ensures
+    filled a.message.now a.a.now a.b.now read.new.slips read.new.rows fresh.result read.new.heard fresh2.result.tally read.result fresh.ensures fresh2.ensures (read.ensures.right document profile_ok p.0) _ c.in-Read.is _ _ _ _ finish.ensures
