@@ -1,5 +1,6 @@
 // What the check answers: the stages from 3 on, from what was heard and the totals after the last event. Definitions: specs/.
 #![tactic(auto)]
+
 ghost use Rattle.std.specs.Prelude.{◌≡◌, ◌+◌, ◌*◌, ◌≤◌, leb, length, get_or};
 ghost use Rattle.profile.specs.Limits.{most_bytes};
 ghost use Rattle.tree.specs.Parts as part;

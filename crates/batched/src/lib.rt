@@ -1,5 +1,6 @@
 // A batch of the message: the collections that have its label, each found by the table of line starts. Batches are labelled from 0 and numbered from 1.
 #![tactic(auto)]
+
 ghost use Rattle.std.specs.Prelude.{◌≡◌, true, not, [], ◌+◌, ◌*◌, ◌≤◌, ◌<◌, ◌^◌, eqb, length};
 ghost use Rattle.laws.specs.Bytes.{span};
 ghost use Rattle.laws.specs.Lists.{put_if, total, count, gather};

@@ -1,6 +1,7 @@
 // The batches of a day list: how many are needed, and the number of each collection's batch. There is no heap: the caller lends the place for the numbers.
 // The terms of a collection come as a code, a number that is equal for two collections exactly where their terms are.
 #![tactic(auto)]
+
 ghost use Rattle.std.specs.Prelude.{◌+◌, ◌≤◌, ◌≡◌, eqb, length};
 ghost use Rattle.bundle.specs.Bundle.{ceil};
 ghost use Rattle.bundle.specs.Labels.{need_of, size_of, labels_of, Marked};

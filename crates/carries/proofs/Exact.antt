@@ -28,7 +28,7 @@ use Rattle.promise.specs.Check.{said_by}
 use Rattle.promise.specs.Demand2.{Agrees, AllAgree, InProfile}
 use Rattle.collections.specs.Listed.{Terms, Collection}
 use Rattle.carries.specs.Carried.{terms_from, collection_from, carried_in, carried_by}
-use Rattle.carries.specs.Contents.{contents, content_of, is, parts, all_of, the, carried_of, collections_in, ProfileIn, Agreed, total_cents, BatchAgreed, AgreedIn}
+use Rattle.carries.specs.Contents.{contents, content_of, is, all_of, the, carried_of, collections_in, ProfileIn, Agreed, total_cents, BatchAgreed, AgreedIn}
 use Rattle.carries.proofs.Fewest.{carried-batches}
 use Rattle.carries.proofs.Said.{said-contents}
 use Rattle.carries.proofs.Finds.{seen, seen_if, all_seen, the_seen, parts_seen, in_seen, carried-seen}

@@ -1,16 +1,17 @@
 // Checks the message on standard input, and prints what that comes to.
 #![tactic(auto)]
-use libc::STDIN_FILENO;
+
+use reads::read_full;
+use std::io;
 
 // The most bytes of a message that is read.
 const MOST: usize = 65536;
 
-fn main() {
+fn main(rt: HostRuntime) -> io::Result<()> {
     let mut message = [0u8; MOST + 1];
-    let n = io::read_full(STDIN_FILENO, &mut message);
+    let n = read_full(&mut rt.stdin(), &mut message)?;
     if MOST < n {
-        prints::print(b"TOO LONG\n");
-        return;
+        return prints::print(&rt, b"TOO LONG\n");
     }
-    report::print_check(&message[..n]);
+    report::print_check(&rt, &message[..n])
 }

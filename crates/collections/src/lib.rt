@@ -1,5 +1,6 @@
 // The terms of the collections of a day list as numbers, and by them the batch of each.
 #![tactic(auto)]
+
 ghost use Rattle.std.specs.Prelude.{◌≡◌, ◌+◌, length};
 ghost use Rattle.frames.specs.Hex.{unhex};
 ghost use Rattle.frames.specs.Lines.{starts};

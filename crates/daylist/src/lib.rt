@@ -4,6 +4,7 @@
 //   values   the values of a line, field by field
 //   stages   the stages that go over all lines: refusals 23, and 51 to 58
 #![tactic(auto)]
+
 ghost use Rattle.std.specs.Prelude.{◌≡◌};
 ghost use Rattle.daylist.specs.Stages.{judged_list};
 

@@ -9,20 +9,19 @@ use Prim.Native.Nat.{ℕ, zero, suc, ◌+◌, ◌-◌, ◌*◌, ◌^◌, ◌≤�
 use native.Mathlib.Omega.{arith}
 use mathlib.Core.Bool.{Bool, true, false}
 use mathlib.Core.List.{List, [], ◌∷◌, ◌++◌}
-use mathlib.Core.Option.{Option, none, some}
+use mathlib.Core.Option.{some}
 use mathlib.Core.Path.{◌≡◌, refl, ap, sym, ◌∙◌}
 use lib.ListN.{length, get_or, set, take, drop}
 use Rattle.laws.specs.Put.{put_at}
 use Rattle.laws.proofs.Puts.{put_two, put-append, put_back, put_all}
 use Rattle.profile.specs.Limits.{most_bytes}
-use Rattle.profile.specs.Refusals.{Fault, fault}
+use Rattle.profile.specs.Refusals.{fault}
 use Rattle.profile.specs.Totals.{count_differs, sum_differs, with_transaction}
 use Rattle.profile.specs.declared.DeclaredCount.{DeclaredCount}
 use Rattle.profile.specs.declared.DeclaredSum.{DeclaredSum}
 use Rattle.profile.specs.declared.Batch.{Batch}
 use Rattle.profile.specs.declared.Tally.{Tally}
 use Rattle.tree.specs.Parts as part
-use Rattle.message.specs.Verdict.{or_else}
 use Rattle.heard.specs.State.{if_any, Word, count_of, sum_of, batch_from, fault_in, declared_parts, row_numbers, put_if_room, slip_parts, slip_numbers, settled_tally, settled_slips}
 use Rattle.heard.specs.Row.{Row, row_of, state_of, with_fault}
 use Rattle.heard.specs.Bounds.{Within}

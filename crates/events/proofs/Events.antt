@@ -11,14 +11,14 @@ use Prim.Native.Nat.{ℕ, zero, suc, ◌+◌, ◌-◌, ◌*◌, ◌^◌, ◌<◌
 use native.Mathlib.Omega.{arith}
 use mathlib.Core.Bool.{Bool}
 use mathlib.Core.List.{List, []}
-use mathlib.Core.Option.{Option, none, some}
+use mathlib.Core.Option.{none, some}
 use mathlib.Core.Path.{◌≡◌, refl, ap, sym, subst, ◌∙◌}
 use borrow.Author.Tests.{ne_eqb}
 use lib.Dec.{eqb, ltb}
 use lib.ListN.{get_or}
 use Rattle.laws.proofs.Tests.{eqb-cases}
 use Rattle.profile.specs.Limits.{most_bytes}
-use Rattle.profile.specs.Refusals.{Fault, fault, flaw_number}
+use Rattle.profile.specs.Refusals.{fault, flaw_number}
 use Rattle.profile.specs.Totals.{closed, begun, totals}
 use Rattle.profile.specs.declared.Flaw.{Flaw}
 use Rattle.profile.specs.declared.Tally.{Tally}

@@ -1,5 +1,6 @@
 // What an event does: a text says something, an element begins; the slip of a transaction that ends and the row of a batch that ends are put into the lent tables.
 #![tactic(auto)]
+
 ghost use Rattle.std.specs.Prelude.{◌≡◌, List, [], ◌∷◌, ℕ, ◌+◌, ◌-◌, ◌*◌, ◌≤◌, ◌<◌, length, take, drop, get_or};
 ghost use Rattle.laws.specs.Lists.{gather, All};
 ghost use Rattle.profile.specs.Limits.{most_bytes};

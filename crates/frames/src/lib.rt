@@ -3,6 +3,7 @@
 //   hex     hexadecimal digits, and the bytes that they stand for
 //   lines   where the lines end and start
 #![tactic(auto)]
+
 ghost use Rattle.std.specs.Prelude.{◌≡◌, true, ◌<◌, min};
 ghost use Rattle.frames.specs.Hex.{unhex};
 ghost use Rattle.frames.specs.Frames.{frame_of, framed};

@@ -14,7 +14,7 @@ use mathlib.Core.Path.{◌≡◌, refl, ap, ◌∙◌}
 use lib.Dec.{ltb}
 use lib.ListN.{length}
 use Rattle.laws.specs.Lists.{total}
-use Rattle.profile.specs.Refusals.{Fault, fault}
+use Rattle.profile.specs.Refusals.{Fault}
 use Rattle.profile.specs.Totals.{with_transaction}
 use Rattle.profile.specs.declared.Tally.{Tally}
 use Rattle.tree.specs.Parts as part

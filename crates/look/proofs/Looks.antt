@@ -13,8 +13,8 @@ use lib.Dec.{T, leb}
 use lib.ListN.{length, take, drop, get_or, length-drop}
 use lib.Seq.{length-take-le, get_or-drop}
 use Rattle.laws.specs.Bytes.{Bytes, between, all, span}
-use Rattle.laws.proofs.Tests.{T_true, true-T, bool_cases, eqb-cases}
-use Rattle.laws.proofs.Loops.{all-span, span_le}
+use Rattle.laws.proofs.Tests.{T_true, true-T, eqb-cases}
+use Rattle.laws.proofs.Loops.{all-span}
 use Rattle.marks.specs.Marks.{letter}
 use Rattle.marks.specs.Ranks.{rank, at_least, ranked}
 use Rattle.marks.proofs.Ranks.{rank-at, least-letter, all-lettered, unslashed}

@@ -1,6 +1,7 @@
 // One look over a text of letters, with the rank of each byte at hand in a lent table: it finds a good text and its end at once. Of every other text it says
 // nothing, and its rule judges it.
 #![tactic(auto)]
+
 ghost use Rattle.std.specs.Prelude.{◌≡◌, ◌+◌, ◌≤◌, T, length, drop};
 ghost use Rattle.laws.specs.Bytes.{span};
 ghost use Rattle.marks.specs.Ranks.{at_least, ranked};

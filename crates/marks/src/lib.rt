@@ -1,5 +1,6 @@
 // Single bytes and runs of them: the classes that document 01's text rules speak of, the letter set among them, patterns, and the numbers that bytes spell.
 #![tactic(auto)]
+
 ghost use Rattle.std.specs.Prelude.{◌≡◌, true, ◌≤◌, ◌<◌, ◌%◌, length};
 ghost use Rattle.laws.specs.Bytes.{between, all, span, same, has};
 ghost use Rattle.marks.specs.Classes.{of};

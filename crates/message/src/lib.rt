@@ -1,6 +1,7 @@
 // What a message says: its events with what their texts state, its batches, transactions and addresses, the stages of the check, and the rows of the tables. The definitions
 // are in specs/.
 #![tactic(auto)]
+
 ghost use Rattle.std.specs.Prelude.{◌≡◌};
 ghost use Rattle.message.specs.Addresses.{good_mix};
 

@@ -1,5 +1,6 @@
 // The ranks of all bytes and the tree of a direct debit message as a table. tools/plan prints it.
 #![tactic(auto)]
+
 ghost use Rattle.std.specs.Prelude.{T};
 ghost use Rattle.marks.specs.Ranks.{ranked};
 ghost use Rattle.tree.specs.Pain008.{document};

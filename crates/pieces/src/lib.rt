@@ -5,6 +5,7 @@
 //   transaction   a transaction, from the line of its collection
 //   head          a batch before its first transaction; a message before its first batch
 #![tactic(auto)]
+
 pub mod head;
 pub mod texts;
 pub mod transaction;

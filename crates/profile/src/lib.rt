@@ -2,6 +2,7 @@
 //
 //   refusals   the papers' number, place and field of each refusal
 #![tactic(auto)]
+
 ghost use Rattle.std.specs.Prelude.{◌≡◌, ◌+◌, ◌^◌, ◌<◌};
 ghost use Rattle.profile.specs.Limits.{limits};
 ghost use Rattle.profile.specs.Totals.{count_differs, sum_differs, fresh_tally, with_transaction, closed, begun, totals};

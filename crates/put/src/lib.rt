@@ -1,6 +1,7 @@
 // Byte writers: each takes the output, the place and what to write, and answers the place after it, whether or not there is room. Where there is room the bytes
 // stand there, and nothing else changes. So a run on an empty part of the output gives the bytes needed, by the very same code.
 #![tactic(auto)]
+
 ghost use Rattle.std.specs.Prelude.{◌≡◌, [], ◌∷◌, ◌+◌, ◌≤◌, ◌<◌, ◌^◌, length, drop};
 ghost use Rattle.frames.specs.Hex.{unhex};
 ghost use Rattle.put.specs.Numerals.{last_digit, decimal, euros, batch_id};

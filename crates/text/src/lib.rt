@@ -6,6 +6,7 @@
 //   shape    IBAN, BICFI, creditor identifier, country
 //   code     the fixed codes
 #![tactic(auto)]
+
 ghost use Rattle.std.specs.Prelude.{◌≡◌};
 ghost use Rattle.text.specs.Rules.{judged};
 

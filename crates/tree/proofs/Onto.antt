@@ -36,7 +36,8 @@ mutual
   pub kids-print : {is : Items} (ks : Kids is) (g x : Bytes) → kid_bytes ks g x ≡ print_kids ks ++ (g ++ x)
   kids-print end g x = refl
   kids-print (skip t ks) g x = kids-print ks g x
-  kids-print (take t w ks) g x = rw (kids-print ks g x, bytes-print t (w.run ++ (print_kids ks ++ (g ++ x)))) (simp append_assoc)
+  kids-print (take t w ks) g x =
+      ap (λ (y : Bytes). bytes t (w.run ++ y)) (kids-print ks g x) ∙ bytes-print t (w.run ++ (print_kids ks ++ (g ++ x))) ∙ simp append_assoc
 
 mutual
   pub events-says : {e : Elem} (t : Tree e) (p : ℕ) (f : ℕ → List Event) → events t p f ≡ says t p ++ f (p + length (print t))

@@ -2,6 +2,7 @@
 //
 //   message   the message of a list whose collections have their labels
 #![tactic(auto)]
+
 ghost use Rattle.std.specs.Prelude.{◌≡◌, ◌+◌, ◌≤◌, length};
 ghost use Rattle.profile.specs.Limits.{most_bytes};
 ghost use Rattle.daylist.specs.Stages.{judged_list};

@@ -3,38 +3,43 @@
 //   NO number place   the first refusal that is met; of a value NO number line field
 //   TOO LONG          the list or its message has more than 65,536 bytes
 #![tactic(auto)]
-use libc::STDIN_FILENO;
+
 use prints::{print, print_list_refused};
 use profile::{ListRefusal, Profile};
+use reads::read_full;
+use std::io;
+use std::rt::Env;
 use write::Written;
 
 // The most bytes of a list, and of a message.
 const MOST: usize = 65536;
 
+// The most bytes of the argument.
+const WORD: usize = 4096;
+
 // ─── the message ───
 
 // 28 means that the program's own output is too short: the message is too long for it.
-fn print_refusal(refusal: ListRefusal) {
+fn print_refusal(rt: &impl Print, refusal: ListRefusal) -> io::Result<()> {
     let number = refusal.number();
     if number == 28 {
-        print(b"TOO LONG\n");
-        return;
+        return print(rt, b"TOO LONG\n");
     }
-    print_list_refused(number, refusal.place() as u64, refusal.field() as u64);
+    print_list_refused(rt, number, refusal.place() as u64, refusal.field() as u64)
 }
 
-fn print_front(out: &[u8], length: usize) {
+fn print_front(rt: &impl Print, out: &[u8], length: usize) -> io::Result<()> {
     if out.len() < length {
-        return;
+        return Ok(());
     }
-    print(&out[..length]);
+    print(rt, &out[..length])
 }
 
-fn print_written(list: &[u8], ceiling: u64) {
+fn print_written(rt: &impl Print, list: &[u8], ceiling: u64) -> io::Result<()> {
     let mut out = [0u8; MOST];
     match write::write(list, ceiling, &mut out) {
-        Written::Length(length) => print_front(&out, length),
-        Written::Refused(refusal) => print_refusal(refusal),
+        Written::Length(length) => print_front(rt, &out, length),
+        Written::Refused(refusal) => print_refusal(rt, refusal),
     }
 }
 
@@ -61,18 +66,21 @@ fn ceiling_of(word: &[u8]) -> u64 {
     spelled(word)
 }
 
-fn print_list(list: &[u8]) {
-    let mut word = io::buffer();
-    let n = os::arg(1, &mut word);
-    print_written(list, ceiling_of(&word[..n]));
+// An argument that is missing, or too long, is one without a byte.
+fn print_list(rt: &(impl Env + Print), list: &[u8]) -> io::Result<()> {
+    let mut word = [0u8; WORD];
+    let n = match rt.arg(1, &mut word) {
+        Ok(n) => n,
+        Err(_) => 0,
+    };
+    print_written(rt, list, ceiling_of(&word[..n]))
 }
 
-fn main() {
+fn main(rt: HostRuntime) -> io::Result<()> {
     let mut list = [0u8; MOST + 1];
-    let n = io::read_full(STDIN_FILENO, &mut list);
+    let n = read_full(&mut rt.stdin(), &mut list)?;
     if MOST < n {
-        print(b"TOO LONG\n");
-        return;
+        return print(&rt, b"TOO LONG\n");
     }
-    print_list(&list[..n]);
+    print_list(&rt, &list[..n])
 }

@@ -11,7 +11,6 @@ use Rattle.laws.specs.Bytes.{Bytes}
 use Rattle.laws.specs.Lists.{total, All, concat, gather}
 use Rattle.laws.proofs.Counts.{All-append}
 use Rattle.profile.specs.Limits.{most_bytes, most_batches, most_cents, most_collections}
-use Rattle.text.specs.Rules.{remittance}
 use Rattle.collections.specs.Listed.{Collection, Creditor}
 use Rattle.collections.specs.Good.{GoodCollection, GoodCreditor}
 use Rattle.written.specs.Written.{scheme_word, sequence_word, terms_of}

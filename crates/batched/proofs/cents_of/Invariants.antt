@@ -1,9 +1,7 @@
 -- `batched::cents_of` meets its contract. The invariant: what the first i collections of the label come to.
-use Rattle.batched.proofs.Picks.{Summed, summed_start, summed_on, summed_few, summed_end}
+use Rattle.batched.proofs.Picks.{Summed}
 use lib.ListN.{length}
 use Prim.Native.Nat.{◌-◌}
-use native.Mathlib.Omega.{arith}
-use borrow.Author.Rules.{rules}
 use Rattle.batched.proofs.cents_of.Given as goal
 
 abbrev pub invariant-loop-i : goal.invariant-loop-i

@@ -1,10 +1,7 @@
 -- `batched::count_of` meets its contract. The invariant: `met` of the first i collections have the label.
-use Rattle.batched.proofs.Picks.{Met, met_start, met-same, met-other, met-end}
-use mathlib.Core.Logic.{⊎_elim}
+use Rattle.batched.proofs.Picks.{Met}
 use lib.ListN.{length}
 use Prim.Native.Nat.{◌-◌}
-use native.Mathlib.Omega.{arith}
-use borrow.Author.Rules.{rules}
 use Rattle.batched.proofs.count_of.Given as goal
 
 abbrev pub invariant-loop-i : goal.invariant-loop-i

@@ -1,14 +1,11 @@
 -- `batched::put_transactions` meets its contract. The invariant: what is written, with what is left after it, is all of them.
-use Rattle.batched.proofs.Picks.{written_on, written-end}
-use Rattle.batched.proofs.Going.{Going, going_start, going_on, going_end}
+use Rattle.batched.proofs.Going.{Going}
 use Rattle.laws.specs.Lists.{gather}
 use Rattle.bundle.specs.Labels.{pick}
 use Rattle.collections.specs.Listed.{listed}
 use Rattle.written.specs.Pieces.{transaction_bytes}
 use lib.ListN.{length, drop}
 use Prim.Native.Nat.{◌+◌, ◌-◌, ◌*◌, ◌≤◌}
-use native.Mathlib.Omega.{arith}
-use borrow.Author.Rules.{rules}
 use Rattle.batched.proofs.put_transactions.Given as goal
 
 abbrev pub invariant-loop-i : goal.invariant-loop-i

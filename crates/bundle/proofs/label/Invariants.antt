@@ -1,10 +1,9 @@
 -- `bundle::label` meets its contract. Outer pass: the collections of the codes before `at` have their labels, and `next` is the next free number.
 -- Inner search: no collection before `earlier` has the code of `at`.
 use Prim.Native.Nat.{◌-◌}
-use native.Mathlib.Omega.{arith}
-use mathlib.Core.Path.{◌≡◌, refl}
+use mathlib.Core.Path.{◌≡◌}
 use lib.ListN.{length}
-use Rattle.bundle.proofs.Loops.{Searching, searching_on, counted-small, counted-end, Labelled, labelled_start, labelled_old, labelled_new, labelled_end}
+use Rattle.bundle.proofs.Loops.{Searching, Labelled}
 use Rattle.bundle.proofs.label.Given as goal
 
 abbrev pub invariant-loop-earlier : goal.invariant-loop-earlier

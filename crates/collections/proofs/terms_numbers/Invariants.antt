@@ -1,14 +1,9 @@
 -- `collections::terms_numbers` meets its contract. The invariant: with the numbers of the collections from i on put after those that are written, they are all that is promised.
-use Rattle.collections.proofs.Lines.{numbers_fit, row-there, set-less, set-within, start-there, number_read}
 use Rattle.collections.specs.Numbers.{numbers_of}
-use Rattle.laws.proofs.Puts.{put_nil, put_all, put_step}
 use Rattle.laws.specs.Put.{put_at}
-use lib.ListN.{length, drop, get_or, set, length-set, drop_of_length-le}
-use mathlib.Core.Path.{◌≡◌, refl, sym, ◌∙◌, ap}
-use native.Mathlib.Nat.{le_of_lt}
-use native.Mathlib.Omega.{arith}
-use Prim.Native.Nat.{ℕ, ◌+◌, ◌-◌, ◌<◌, ◌≤◌}
-use borrow.Author.Rules.{rules}
+use lib.ListN.{length, drop}
+use mathlib.Core.Path.{◌≡◌}
+use Prim.Native.Nat.{◌-◌, ◌≤◌}
 use Rattle.collections.proofs.terms_numbers.Given as goal
 
 abbrev pub invariant-loop-i : goal.invariant-loop-i

@@ -1,13 +1,9 @@
 -- `fill_columns` meets its contract. The invariant: with the numbers of the parts from i on put after what is filled, they are all there.
-use Prim.Native.Nat.{◌+◌, ◌-◌, ◌*◌, ◌≤◌, ◌<◌}
-use native.Mathlib.Omega.{arith}
-use mathlib.Core.Path.{◌≡◌, sym, ◌∙◌}
-use lib.ListN.{length, get_or, drop, length-set}
+use Prim.Native.Nat.{◌+◌, ◌-◌, ◌*◌, ◌≤◌}
+use mathlib.Core.Path.{◌≡◌}
+use lib.ListN.{length, get_or, drop}
 use Rattle.laws.specs.Put.{put_at}
-use Rattle.laws.proofs.Puts.{put_all}
-use Rattle.tree.specs.Parts.{parts_end}
-use Rattle.events.proofs.Columns.{all-at, columns, length-columns, columns-step, columns-done}
-use borrow.Author.Rules.{rules}
+use Rattle.events.proofs.Columns.{columns}
 use Rattle.events.proofs.fill_columns.Given as goal
 
 abbrev pub invariant-loop-i : goal.invariant-loop-i

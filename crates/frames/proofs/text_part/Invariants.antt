@@ -1,15 +1,11 @@
 -- `frames::text_part` meets its contract. The invariant: the walk has passed `passed` texts and come to the place `at`.
-use Rattle.frames.proofs.Parts.{Come, come_start, come_go, come_there, come_part}
-use Rattle.frames.proofs.Digits.{unhex-length}
+use Rattle.frames.proofs.Parts.{Come}
 use Rattle.frames.specs.Frames.{framed}
 use Rattle.frames.specs.Hex.{unhex}
 use Rattle.frames.specs.declared.Frame.{Frame}
-use lib.ListN.{length, get_or}
-use mathlib.Core.Path.{◌≡◌, refl}
+use mathlib.Core.Path.{◌≡◌}
 use mathlib.Core.Bool.{true}
-use native.Mathlib.Omega.{arith}
-use Prim.Native.Nat.{◌-◌, ◌≤◌, ◌<◌, ◌+◌}
-use borrow.Author.Rules.{rules}
+use Prim.Native.Nat.{◌-◌, ◌≤◌, ◌<◌}
 use Rattle.frames.proofs.text_part.Given as goal
 
 abbrev pub invariant-loop-passed : goal.invariant-loop-passed

@@ -1,14 +1,9 @@
 -- `look::run_end` meets its contract: what is to come from i on is what was to come from `at` on, over four bytes of a rank at a time.
 use Prim.Native.Nat.{◌+◌, ◌-◌, ◌≤◌}
-use native.Mathlib.Omega.{arith}
-use mathlib.Core.Path.{◌≡◌, refl, sym, ◌∙◌}
+use mathlib.Core.Path.{◌≡◌}
 use lib.ListN.{length, drop}
-use borrow.Author.Rules.{rules}
-use borrow.Author.Tests.{not-true, not-false}
 use Rattle.laws.specs.Bytes.{span}
-use Rattle.laws.proofs.Loops.{span-stop}
 use Rattle.marks.specs.Ranks.{at_least}
-use Rattle.scan.proofs.Scans.{run_on}
 use Rattle.look.proofs.run_end.Given as goal
 
 abbrev pub invariant-loop-i : goal.invariant-loop-i

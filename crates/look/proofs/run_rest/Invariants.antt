@@ -1,11 +1,8 @@
 -- `look::run_rest` meets its contract. The invariant: what is left of the run ends where the whole does.
 use Prim.Native.Nat.{◌+◌, ◌-◌, ◌≤◌}
-use mathlib.Core.Path.{◌≡◌, refl, sym, ◌∙◌}
+use mathlib.Core.Path.{◌≡◌}
 use lib.ListN.{length, drop}
-use borrow.Author.Rules.{rules}
-use borrow.Author.Tests.{not-true, not-false}
 use Rattle.laws.specs.Bytes.{span}
-use Rattle.laws.proofs.Loops.{span-stop, span-go, span-end}
 use Rattle.marks.specs.Ranks.{at_least}
 use Rattle.look.proofs.run_rest.Given as goal
 

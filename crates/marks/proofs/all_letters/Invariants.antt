@@ -1,15 +1,12 @@
 -- `marks::all_letters` meets its contract. The invariant: every byte of the text is of the class where `good` holds and every byte from i on is.
 use Prim.Native.Nat.{◌-◌}
 use mathlib.Core.Bool.{◌&&◌}
-use mathlib.Core.Path.{◌≡◌, refl, sym, ◌∙◌}
+use mathlib.Core.Path.{◌≡◌}
 use lib.ListN.{length, drop}
-use borrow.Author.Rules.{rules}
 use Rattle.laws.specs.Bytes.{all}
 use Rattle.marks.specs.Marks.{letter}
-use Rattle.marks.proofs.Classes.{all_and_go, all_and_end}
 use Rattle.marks.proofs.all_letters.Given as goal
 
--- `marks::all_letters` meets its contract. The invariant: every byte of the text is of the class where `good` holds and every byte from i on is.
 abbrev pub invariant-loop-i : goal.invariant-loop-i
 invariant-loop-i l = all letter l.text ≡ l.good && all letter (drop l.i l.text)
 

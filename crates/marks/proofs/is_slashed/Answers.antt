@@ -1,10 +1,5 @@
-use Prim.Native.Nat.{◌-◌}
-use mathlib.Core.Logic.{⊎_elim}
-use mathlib.Core.Path.{◌≡◌, sym, ◌∙◌}
-use lib.ListN.{length, drop}
-use borrow.Author.Rules.{rules}
-use Rattle.marks.specs.Marks.{slashed}
-use Rattle.marks.proofs.Slashes.{joined, joined-slashed, joined-stop, joined-go, joined_end}
+use mathlib.Core.Path.{sym}
+use Rattle.marks.proofs.Slashes.{joined-slashed}
 use Rattle.marks.proofs.is_slashed.Goals as goal
 
 pub loop-i-init : goal.loop-i-init

@@ -1,12 +1,5 @@
-use Prim.Native.Nat.{◌-◌, ◌<◌, ◌^◌}
 use native.Mathlib.Omega.{arith}
-use mathlib.Core.Bool.{true}
-use mathlib.Core.Path.{◌≡◌, refl, sym, ◌∙◌}
-use lib.ListN.{length, drop, get_or}
-use borrow.Author.Rules.{rules}
-use Rattle.marks.specs.Marks.{digit, value, value_from}
-use Rattle.marks.proofs.Classes.{between_low, class_at}
-use Rattle.marks.proofs.Numbers.{value-go, value-end, digit-more, power_under}
+use Rattle.marks.proofs.Numbers.{power_under}
 use Rattle.marks.proofs.number.Goals as goal
 
 pub overflow_mul-v : goal.overflow_mul-v

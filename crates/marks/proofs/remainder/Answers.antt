@@ -1,13 +1,11 @@
-use Prim.Native.Nat.{ℕ, ◌+◌, ◌-◌, ◌≤◌, ◌<◌, ◌%◌}
+use Prim.Native.Nat.{ℕ, ◌+◌, ◌-◌, ◌≤◌, ◌<◌}
 use native.Mathlib.Nat.{mod-lt}
 use native.Mathlib.Omega.{arith}
 use mathlib.Core.Bool.{true}
-use mathlib.Core.Path.{◌≡◌, refl, sym, ◌∙◌}
+use mathlib.Core.Path.{◌≡◌, ◌∙◌}
 use lib.ListN.{length, take, drop, length-take}
-use borrow.Author.Rules.{rules}
 use Rattle.laws.specs.Bytes.{all}
-use Rattle.laws.proofs.Loops.{drop-part}
-use Rattle.marks.specs.Marks.{letter_or_digit, spelled_from}
+use Rattle.marks.specs.Marks.{letter_or_digit}
 use Rattle.marks.proofs.Classes.{class_part}
 use Rattle.marks.proofs.Numbers.{remainder_go}
 use Rattle.marks.proofs.remainder.Goals as goal

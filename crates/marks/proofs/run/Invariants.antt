@@ -1,16 +1,11 @@
 -- `marks::run` meets its contract. The invariant: the bytes of the class at the front of the text are i and those at the front of what is left.
 use Prim.Native.Nat.{◌+◌, ◌-◌}
-use native.Mathlib.Nat.{zero-add}
-use mathlib.Core.Path.{◌≡◌, sym, ◌∙◌}
+use mathlib.Core.Path.{◌≡◌}
 use lib.ListN.{length, drop}
-use borrow.Author.Rules.{rules}
-use borrow.Author.Tests.{not-true, not-false}
 use Rattle.laws.specs.Bytes.{span}
-use Rattle.laws.proofs.Loops.{span-stop, span-go, span-end}
 use Rattle.marks.specs.Classes.{of}
 use Rattle.marks.proofs.run.Given as goal
 
--- `marks::run` meets its contract. The invariant: the bytes of the class at the front of the text are i and those at the front of what is left.
 abbrev pub invariant-loop-i : goal.invariant-loop-i
 invariant-loop-i l = span (of l.class) l.text ≡ l.i + span (of l.class) (drop l.i l.text)
 

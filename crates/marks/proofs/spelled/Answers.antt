@@ -1,12 +1,8 @@
-use Prim.Native.Nat.{◌+◌, ◌-◌, ◌*◌, ◌^◌, ◌<◌}
+use Prim.Native.Nat.{◌+◌, ◌^◌, ◌<◌}
 use native.Mathlib.Omega.{arith}
-use mathlib.Core.Logic.{inl, inr}
-use mathlib.Core.Path.{◌≡◌, refl, sym, ◌∙◌}
-use lib.ListN.{length, drop, get_or}
-use borrow.Author.Rules.{rules}
-use Rattle.marks.specs.Marks.{letter_or_digit, letter_value, spelled_from}
-use Rattle.marks.proofs.Classes.{class_at, between_low, value-digit, value_le}
-use Rattle.marks.proofs.Numbers.{power_under, shift, shift-digit, shift-letter, letter-more, spelled-go, spelled-end}
+use lib.ListN.{get_or}
+use Rattle.marks.proofs.Classes.{value_le}
+use Rattle.marks.proofs.Numbers.{power_under}
 use Rattle.marks.proofs.spelled.Goals as goal
 use Rattle.marks.proofs.spelled.Goals.{After-is_digit}
 

@@ -1,11 +1,8 @@
 -- `put::copy` meets its contract. The invariant: with the bytes from i on put after what is copied, they are all there.
-use Rattle.laws.proofs.Puts.{put_nil, put_all, put_step}
 use Rattle.laws.specs.Put.{put_at}
-use lib.ListN.{length, drop, length-set, drop_of_length-le}
-use mathlib.Core.Path.{◌≡◌, sym, ◌∙◌}
-use native.Mathlib.Omega.{arith}
+use lib.ListN.{length, drop}
+use mathlib.Core.Path.{◌≡◌}
 use Prim.Native.Nat.{◌-◌, ◌≤◌}
-use borrow.Author.Rules.{rules}
 use Rattle.put.proofs.copy.Given as goal
 
 abbrev pub invariant-loop-i : goal.invariant-loop-i

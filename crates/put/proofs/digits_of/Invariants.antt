@@ -1,13 +1,9 @@
 -- `put::digits_of` meets its contract. The invariant: the digits of what is left of the number, and after them those that are written.
-use Rattle.put.proofs.Writes.{decimal-last, decimal-more, store_front}
-use Rattle.put.specs.Numerals.{last_digit, decimal_of, decimal}
-use Rattle.laws.specs.Bytes.{Bytes}
-use lib.ListN.{length, drop, set, length-set, drop_of_length-le}
-use mathlib.Core.List.{[], ◌∷◌, ◌++◌, append_assoc, append-nil}
-use mathlib.Core.Path.{◌≡◌, sym, ◌∙◌}
-use native.Mathlib.Omega.{arith}
-use Prim.Native.Nat.{ℕ, ◌-◌, ◌/◌, ◌≤◌, ◌<◌}
-use borrow.Author.Rules.{rules}
+use Rattle.put.specs.Numerals.{decimal_of, decimal}
+use lib.ListN.{length, drop}
+use mathlib.Core.List.{◌++◌}
+use mathlib.Core.Path.{◌≡◌}
+use Prim.Native.Nat.{◌≤◌}
 use Rattle.put.proofs.digits_of.Given as goal
 
 abbrev pub invariant-loop-from : goal.invariant-loop-from

@@ -1,6 +1,5 @@
 -- `run_lists::main` meets its contract: it counts to two hundred.
 use Prim.Native.Nat.{◌≤◌, ◌-◌}
-use borrow.Author.Rules.{rules}
 use Rattle.run_lists.proofs.main.Given as goal
 
 abbrev pub invariant-loop-i : goal.invariant-loop-i

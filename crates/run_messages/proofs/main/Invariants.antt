@@ -1,6 +1,5 @@
 -- `run_messages::main` meets its contract: it counts to a hundred.
 use Prim.Native.Nat.{◌≤◌, ◌-◌}
-use borrow.Author.Rules.{rules}
 use Rattle.run_messages.proofs.main.Given as goal
 
 abbrev pub invariant-loop-i : goal.invariant-loop-i

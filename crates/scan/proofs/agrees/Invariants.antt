@@ -1,11 +1,8 @@
 -- `scan::agrees` meets its contract: i bytes agree, and what is left of both agrees as far as `common` says.
 use Prim.Native.Nat.{◌+◌, ◌-◌, ◌≤◌}
 use mathlib.Core.Path.{◌≡◌}
-use native.Mathlib.Omega.{arith}
-use native.Mathlib.Nat.{add-zero, zero-add}
 use lib.ListN.{length, drop}
 use Rattle.tree.specs.Form.{common}
-use Rattle.scan.proofs.Scans.{common-go, common-miss, common-out, common-whole}
 use Rattle.scan.proofs.agrees.Given as goal
 
 abbrev pub invariant-loop-i : goal.invariant-loop-i

@@ -1,10 +1,6 @@
 -- `scan::stands` meets its contract: the first i bytes are the same, eight more in a round, and then the last eight.
-use Prim.Native.Nat.{ℕ, ◌+◌, ◌-◌}
-use native.Mathlib.Omega.{arith}
-use mathlib.Core.Path.{◌≡◌, sym, ◌∙◌}
-use borrow.Author.Rules.{rules}
-use borrow.Author.Tests.{eqb-true}
-use Rattle.scan.proofs.Words.{Alike, alike-none, alike_on, alike_stands}
+use Prim.Native.Nat.{◌-◌}
+use Rattle.scan.proofs.Words.{Alike}
 use Rattle.scan.proofs.stands.Given as goal
 
 abbrev pub invariant-loop-i : goal.invariant-loop-i

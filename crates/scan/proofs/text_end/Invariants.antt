@@ -1,13 +1,9 @@
 -- `scan::text_end` meets its contract: what is to come from i on is what was to come from `at` on, over four bytes of a text at a time.
-use borrow.Author.Rules.{rules}
 use Prim.Native.Nat.{◌+◌, ◌-◌, ◌≤◌}
-use native.Mathlib.Omega.{arith}
-use mathlib.Core.Path.{◌≡◌, sym, ◌∙◌}
+use mathlib.Core.Path.{◌≡◌}
 use lib.ListN.{length, drop}
 use Rattle.laws.specs.Bytes.{span}
-use Rattle.laws.proofs.Loops.{span-stop}
 use Rattle.tree.specs.Form.{in_text}
-use Rattle.scan.proofs.Scans.{text_no, text_on}
 use Rattle.scan.proofs.text_end.Given as goal
 
 abbrev pub invariant-loop-i : goal.invariant-loop-i

@@ -1,12 +1,9 @@
 -- `scan::text_rest` meets its contract: what is to come from i on is what was to come from `at` on.
-use borrow.Author.Rules.{rules}
 use Prim.Native.Nat.{◌+◌, ◌-◌}
-use mathlib.Core.Path.{◌≡◌, refl, sym, ◌∙◌}
+use mathlib.Core.Path.{◌≡◌}
 use lib.ListN.{length, drop}
 use Rattle.laws.specs.Bytes.{span}
-use Rattle.laws.proofs.Loops.{span-stop, span-go, span-end}
 use Rattle.tree.specs.Form.{in_text}
-use Rattle.scan.proofs.Scans.{text_no, text_yes}
 use Rattle.scan.proofs.text_rest.Given as goal
 
 abbrev pub invariant-loop-i : goal.invariant-loop-i

@@ -1,11 +1,8 @@
 -- `scan::white_end` meets its contract: what is to come from i on is what was to come from `at` on.
-use borrow.Author.Rules.{rules}
-use borrow.Author.Tests.{not-true, not-false}
 use Prim.Native.Nat.{◌+◌, ◌-◌}
-use mathlib.Core.Path.{◌≡◌, refl, sym, ◌∙◌}
+use mathlib.Core.Path.{◌≡◌}
 use lib.ListN.{length, drop}
 use Rattle.laws.specs.Bytes.{span}
-use Rattle.laws.proofs.Loops.{span-stop, span-go, span-end}
 use Rattle.tree.specs.Form.{white}
 use Rattle.scan.proofs.white_end.Given as goal
 

@@ -1,7 +1,6 @@
 -- `writer::spelled` meets its contract: the number is no more than a ceiling may be where a digit is added, and the digits left get fewer.
 use Prim.Native.Nat.{◌≤◌, ◌-◌}
 use lib.ListN.{length}
-use borrow.Author.Rules.{rules}
 use Rattle.writer.proofs.spelled.Given as goal
 
 abbrev pub invariant-loop-i : goal.invariant-loop-i

@@ -1,14 +1,9 @@
 -- `daylist::stages::judge_frames` meets its contract. The invariant: the list is judged as its rest from `at` on is, after the lines that are done.
-use Rattle.daylist.proofs.Stops.{frames_lacks, frames-not, frames-go, frames-end}
 use Rattle.daylist.specs.Stages.{frames_from}
-use Rattle.frames.proofs.Cuts.{line-inside}
 use Rattle.frames.specs.Lines.{lines}
-use borrow.Author.Tests.{not-true, not-false}
 use lib.ListN.{length, drop}
-use mathlib.Core.Path.{◌≡◌, refl, sym, ◌∙◌}
-use native.Mathlib.Omega.{arith}
-use Prim.Native.Nat.{◌-◌, ◌≤◌, ◌<◌}
-use borrow.Author.Rules.{rules}
+use mathlib.Core.Path.{◌≡◌}
+use Prim.Native.Nat.{◌-◌, ◌≤◌}
 use Rattle.daylist.proofs.stages.judge_frames.Given as goal
 
 abbrev pub invariant-loop-at : goal.invariant-loop-at

@@ -1,12 +1,9 @@
 -- `daylist::stages::judge_values` meets its contract. The invariant: the list is judged as its rest from `at` on is, after the lines that are done.
-use Rattle.daylist.proofs.Stops.{values-bad, values-go, values-end}
 use Rattle.daylist.specs.Stages.{values_from}
 use Rattle.frames.specs.Lines.{lines}
 use lib.ListN.{length, drop}
-use mathlib.Core.Path.{◌≡◌, refl, sym, ◌∙◌}
-use native.Mathlib.Omega.{arith}
+use mathlib.Core.Path.{◌≡◌}
 use Prim.Native.Nat.{◌-◌, ◌≤◌}
-use borrow.Author.Rules.{rules}
 use Rattle.daylist.proofs.stages.judge_values.Given as goal
 
 abbrev pub invariant-loop-at : goal.invariant-loop-at

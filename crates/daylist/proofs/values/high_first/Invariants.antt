@@ -1,13 +1,9 @@
 -- `daylist::values::high_first` meets its contract. The invariant: v is below its power of 256, and v with the bytes from `at` on is the number.
-use Rattle.daylist.proofs.Leads.{high_start, high_go, high_end, high_more, high_under}
-use Rattle.frames.proofs.Digits.{unhex-length}
 use Rattle.daylist.specs.Lead.{high_first, high_first_from}
 use Rattle.frames.specs.Hex.{unhex}
-use lib.ListN.{take, drop, get_or}
-use mathlib.Core.Path.{◌≡◌, sym, ◌∙◌}
-use native.Mathlib.Omega.{arith}
-use Prim.Native.Nat.{◌-◌, ◌<◌, ◌≤◌, ◌^◌, ◌+◌}
-use borrow.Author.Rules.{rules}
+use lib.ListN.{take, drop}
+use mathlib.Core.Path.{◌≡◌}
+use Prim.Native.Nat.{◌-◌, ◌<◌, ◌≤◌, ◌^◌}
 use Rattle.daylist.proofs.values.high_first.Given as goal
 
 abbrev pub invariant-loop-at : goal.invariant-loop-at

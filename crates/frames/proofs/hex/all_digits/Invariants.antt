@@ -1,13 +1,11 @@
 -- `frames::hex::all_digits` meets its contract. The invariant: every byte is a digit where none before i was astray and every byte from i on is one.
 use Rattle.frames.specs.Hex.{hex_digit}
-use Rattle.frames.proofs.Seen.{seen-go, seen_end, seen-max}
 use Rattle.laws.specs.Bytes.{all}
 use mathlib.Core.Bool.{◌&&◌}
-use mathlib.Core.Path.{◌≡◌, refl}
+use mathlib.Core.Path.{◌≡◌}
 use lib.Dec.{eqb}
-use lib.ListN.{length, drop, get_or}
+use lib.ListN.{length, drop}
 use Prim.Native.Nat.{◌-◌}
-use borrow.Author.Rules.{rules}
 use Rattle.frames.proofs.hex.all_digits.Given as goal
 
 abbrev pub invariant-loop-i : goal.invariant-loop-i

@@ -1,13 +1,8 @@
 -- `frames::hex::decode` meets its contract. The invariants: each value below j is what its digit is worth, each byte below i is what its two digits stand for.
 use Rattle.frames.specs.Hex.{hex_value, unhex}
-use Rattle.frames.proofs.Digits.{unhex-length, unhex-at, value-under}
-use Rattle.frames.proofs.Strides.{set-go}
-use lib.ListN.{length, get_or, length-set}
-use lib.Seq.{ext_get_or}
-use mathlib.Core.Path.{◌≡◌, refl, sym}
-use native.Mathlib.Omega.{arith}
-use Prim.Native.Nat.{ℕ, ◌+◌, ◌*◌, ◌-◌, ◌/◌, ◌<◌}
-use borrow.Author.Rules.{rules}
+use lib.ListN.{length, get_or}
+use mathlib.Core.Path.{◌≡◌}
+use Prim.Native.Nat.{ℕ, ◌-◌, ◌<◌}
 use Rattle.frames.proofs.hex.decode.Given as goal
 
 abbrev pub invariant-loop-j : goal.invariant-loop-j

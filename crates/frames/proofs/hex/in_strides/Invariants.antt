@@ -1,15 +1,8 @@
 -- `frames::hex::in_strides` meets its contract. The invariant: the first i bytes stand in `out`.
 use Rattle.frames.specs.Hex.{unhex}
-use Rattle.frames.proofs.Digits.{unhex-length}
-use Rattle.frames.proofs.Strides.{stride_go, stride_length, stride_end}
-use Rattle.laws.specs.Bytes.{Bytes}
-use Rattle.laws.specs.Put.{put_at}
-use lib.Seq.{take-take, drop-drop}
-use lib.ListN.{length, take, drop, length-drop}
-use mathlib.Core.Path.{◌≡◌, refl, ap, sym, ◌∙◌}
-use native.Mathlib.Omega.{arith}
-use Prim.Native.Nat.{ℕ, ◌+◌, ◌-◌, ◌≤◌}
-use borrow.Author.Rules.{rules}
+use lib.ListN.{length, take, drop}
+use mathlib.Core.Path.{◌≡◌}
+use Prim.Native.Nat.{◌-◌, ◌≤◌}
 use Rattle.frames.proofs.hex.in_strides.Given as goal
 
 abbrev pub invariant-loop-i : goal.invariant-loop-i

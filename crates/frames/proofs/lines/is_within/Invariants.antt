@@ -1,15 +1,11 @@
 -- `frames::lines::is_within` meets its contract. The invariant: no byte is LF where none before i was and none from i on is.
 use Rattle.frames.specs.Lines.{not_end}
-use Rattle.frames.proofs.Seen.{seen-go, seen_end}
 use Rattle.laws.specs.Bytes.{all}
-use borrow.Author.Tests.{eq-eqb, ne_eqb}
-use mathlib.Core.Bool.{◌&&◌, and-true, and-false}
-use mathlib.Core.Logic.{⊎_elim}
-use mathlib.Core.Path.{◌≡◌, refl}
+use mathlib.Core.Bool.{◌&&◌}
+use mathlib.Core.Path.{◌≡◌}
 use lib.Dec.{eqb}
-use lib.ListN.{length, drop, get_or}
+use lib.ListN.{length, drop}
 use Prim.Native.Nat.{◌-◌}
-use borrow.Author.Rules.{rules}
 use Rattle.frames.proofs.lines.is_within.Given as goal
 
 abbrev pub invariant-loop-i : goal.invariant-loop-i

@@ -1,14 +1,9 @@
 -- `frames::lines::line_length` meets its contract. The invariant: the bytes before the first LF are i and those before the first LF of what is left.
 use Rattle.frames.specs.Lines.{not_end}
-use Rattle.laws.proofs.Loops.{span-stop, span-go, span-end}
 use Rattle.laws.specs.Bytes.{span}
-use borrow.Author.Tests.{eq-eqb, ne_eqb}
 use lib.ListN.{length, drop}
-use mathlib.Core.Path.{◌≡◌, sym, ◌∙◌}
-use native.Mathlib.Nat.{zero-add}
-use native.Mathlib.Omega.{arith}
+use mathlib.Core.Path.{◌≡◌}
 use Prim.Native.Nat.{◌+◌, ◌-◌}
-use borrow.Author.Rules.{rules}
 use Rattle.frames.proofs.lines.line_length.Given as goal
 
 abbrev pub invariant-loop-i : goal.invariant-loop-i

@@ -1,16 +1,9 @@
 -- `frames::lines::line_starts` meets its contract. The invariant: with the starts of the lines from `at` on put after what is written, as far as the table goes, it is what is promised.
-use Rattle.frames.proofs.Tables.{fill-go, fill_full, fill_none}
-use Rattle.frames.proofs.Cuts.{line-within, line-inside, line-passed, starts-go, starts-last, starts-end}
-use Rattle.frames.specs.Lines.{not_end, lines, starts_from, starts}
-use Rattle.laws.proofs.Loops.{drop-part}
+use Rattle.frames.specs.Lines.{lines, starts_from, starts}
 use Rattle.laws.specs.Put.{put_at}
-use Rattle.laws.specs.Bytes.{span}
-use lib.ListN.{length, take, drop, set, length-set}
-use mathlib.Core.List.{List, []}
-use mathlib.Core.Path.{◌≡◌, refl, sym, ◌∙◌, ap}
-use native.Mathlib.Omega.{arith}
-use Prim.Native.Nat.{ℕ, ◌-◌, ◌+◌, ◌≤◌, ◌<◌}
-use borrow.Author.Rules.{rules}
+use lib.ListN.{length, take, drop}
+use mathlib.Core.Path.{◌≡◌}
+use Prim.Native.Nat.{◌-◌}
 use Rattle.frames.proofs.lines.line_starts.Given as goal
 
 abbrev pub invariant-loop-at : goal.invariant-loop-at

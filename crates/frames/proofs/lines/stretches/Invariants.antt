@@ -1,13 +1,9 @@
 -- `frames::lines::stretches` meets its contract. The invariant: the bytes before the first LF are `at` and those before the first LF of what is left.
 use Rattle.frames.specs.Lines.{not_end}
-use Rattle.frames.proofs.Seen.{span_stretch}
 use Rattle.laws.specs.Bytes.{span}
-use borrow.Author.Tests.{not-false}
 use lib.ListN.{length, drop}
-use mathlib.Core.Path.{◌≡◌, sym, ◌∙◌}
-use native.Mathlib.Omega.{arith}
+use mathlib.Core.Path.{◌≡◌}
 use Prim.Native.Nat.{◌+◌, ◌-◌, ◌≤◌}
-use borrow.Author.Rules.{rules}
 use Rattle.frames.proofs.lines.stretches.Given as goal
 
 abbrev pub invariant-loop-at : goal.invariant-loop-at

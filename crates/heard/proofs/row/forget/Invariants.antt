@@ -1,12 +1,9 @@
 -- `row::forget` meets its contract. The invariant: with zeros from i on to the end of the words, they are all there.
 use Prim.Native.Nat.{◌-◌, ◌*◌, ◌≤◌}
-use native.Mathlib.Omega.{arith}
-use mathlib.Core.Path.{◌≡◌, refl, ◌∙◌}
-use lib.ListN.{length, length-set, replicate}
+use mathlib.Core.Path.{◌≡◌}
+use lib.ListN.{length, replicate}
 use Rattle.laws.specs.Put.{put_at}
 use Rattle.heard.specs.Row.{flaw_slot, heard_length}
-use Rattle.heard.proofs.Rows.{zero-step, forgot_all}
-use borrow.Author.Rules.{rules}
 use Rattle.heard.proofs.row.forget.Given as goal
 
 abbrev pub invariant-loop-i : goal.invariant-loop-i

@@ -1,38 +1,30 @@
--- `text::date::date` meets its contract. The shape says where the digits stand, and so that the parts are there and small.
-use Prim.Native.Nat.{◌<◌}
-use native.Mathlib.Omega.{arith}
 use mathlib.Core.Bool.{true, and-false}
 use mathlib.Core.Path.{◌≡◌, sym, ◌∙◌}
-use borrow.Author.Rules.{rules}
-use borrow.Author.Tests.{not-true, not-false}
 use Rattle.laws.specs.Bytes.{Bytes, ascii}
 use Rattle.marks.specs.Marks.{fits}
 use Rattle.text.specs.Rules.{value_at, real_day}
-use Rattle.text.proofs.Days.{part-there, part-under}
 use Rattle.text.proofs.date.date.Goals as goal
 use Rattle.text.proofs.date.date.Goals.{After-is_real_day, Else-not-has_shape}
 
 abbrev shape : Bytes
 shape = ascii "DDDD-DD-DD"
 
-abbrev text : Else-not-has_shape → Bytes
-text c = c.args.text.now
-
 -- the text has the shape
-shaped : (c : Else-not-has_shape) → fits shape (text c) ≡ true
-shaped c = sym c.has_shape.ensures ∙ not-false _ c.if-not-has_shape.false
+shaped : (c : Else-not-has_shape) → fits shape c.args.text.now ≡ true
+shaped c = sym c.has_shape.ensures ∙ c.if-not-has_shape.false
 
 -- what `is_real_day` answers, of the parts
-real : (c : After-is_real_day) → (let s = text c in real_day (value_at 0 4 s) (value_at 5 2 s) (value_at 8 2 s) ≡ c.is_real_day.result)
+real : (c : After-is_real_day) → (let s = c.args.text.now in real_day (value_at 0 4 s) (value_at 5 2 s) (value_at 8 2 s) ≡ c.is_real_day.result)
 real c = rw (c.part_of-day.ensures, c.part_of-month.ensures, c.part_of-year.ensures) at (sym c.is_real_day.ensures)
 
 pub returns-then-not-is_real_day : goal.returns-then-not-is_real_day
-returns-then-not-is_real_day c = rw (real (goal.at.returns-then-not-is_real_day c).After-is_real_day ∙ not-true _ c.if-not-is_real_day.true, and-false (fits shape (text c)))
+returns-then-not-is_real_day c = rw (real (goal.at.returns-then-not-is_real_day c).After-is_real_day ∙ c.if-not-is_real_day.true, and-false (fits shape c.args.text.now))
 
 pub returns : goal.returns
-returns c = rw (
+returns c =
+    rw (
       shaped (goal.at.returns c).Else-not-has_shape,
-      real (goal.at.returns c).After-is_real_day ∙ not-false _ c.if-not-is_real_day.false,
+      real (goal.at.returns c).After-is_real_day ∙ c.if-not-is_real_day.false,
       c.part_of-day.ensures,
       c.part_of-month.ensures,
       c.part_of-year.ensures,

@@ -1,11 +1,9 @@
--- `text::number::count` meets its contract. Its bytes are all digits where the digits at the front are as many as its bytes.
 use mathlib.Core.Bool.{true, and-false}
 use mathlib.Core.Path.{◌≡◌, sym, ◌∙◌}
-use borrow.Author.Rules.{rules}
 use Rattle.laws.specs.Bytes.{all}
 use Rattle.laws.proofs.Loops.{span-whole, span-part}
 use Rattle.marks.specs.Marks.{digit}
-use Rattle.text.proofs.Musts.{between-under, between-over, between_in}
+use Rattle.text.proofs.Musts.{between_in}
 use Rattle.text.proofs.number.count.Goals as goal
 use Rattle.text.proofs.number.count.Goals.{Else-digits-text}
 

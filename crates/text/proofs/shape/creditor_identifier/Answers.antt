@@ -1,10 +1,7 @@
--- `text::shape::creditor_identifier` meets its contract. Its first four and what follows the first seven are the text without the business code.
 use native.Mathlib.Omega.{arith}
 use mathlib.Core.Bool.{true}
 use mathlib.Core.Path.{◌≡◌, sym, ◌∙◌}
-use borrow.Author.Rules.{rules}
-use borrow.Author.Tests.{not-true, not-false}
-use Rattle.laws.specs.Bytes.{Bytes, ascii}
+use Rattle.laws.specs.Bytes.{ascii}
 use Rattle.marks.specs.declared.Class.TheVariants.{CapitalOrDigit}
 use Rattle.marks.specs.Marks.{capital_or_digit}
 use Rattle.text.specs.Shapes.{shaped}
@@ -12,16 +9,12 @@ use Rattle.text.proofs.Shapes.{shaped_longer, shaped-letters}
 use Rattle.text.proofs.shape.creditor_identifier.Goals as goal
 use Rattle.text.proofs.shape.creditor_identifier.Goals.{Else-not-is_shaped}
 
--- the text, once it has passed that test; and that it has its shape
-abbrev text : Else-not-is_shaped → Bytes
-text c = c.args.text.now
-
-is-shaped : (c : Else-not-is_shaped) → shaped (ascii "AADDNNN") 28 capital_or_digit (text c) ≡ true
-is-shaped c = sym c.is_shaped.ensures ∙ not-false _ c.if-not-is_shaped.false
+is-shaped : (c : Else-not-is_shaped) → shaped (ascii "AADDNNN") 28 capital_or_digit c.args.text.now ≡ true
+is-shaped c = sym c.is_shaped.ensures ∙ c.if-not-is_shaped.false
 
 pub leaves_one-requires : goal.leaves_one-requires
 leaves_one-requires c = (
   omega arith,
-  omega (arith, shaped_longer (ascii "AADDNNN") 28 capital_or_digit (text c) (is-shaped (goal.at.leaves_one-requires c).Else-not-is_shaped)),
-  shaped-letters (ascii "AADDNNN") 28 CapitalOrDigit (text c) tt (is-shaped (goal.at.leaves_one-requires c).Else-not-is_shaped),
+  omega (arith, shaped_longer (ascii "AADDNNN") 28 capital_or_digit c.args.text.now (is-shaped (goal.at.leaves_one-requires c).Else-not-is_shaped)),
+  shaped-letters (ascii "AADDNNN") 28 CapitalOrDigit c.args.text.now tt (is-shaped (goal.at.leaves_one-requires c).Else-not-is_shaped),
 )

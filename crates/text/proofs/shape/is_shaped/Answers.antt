@@ -1,14 +1,10 @@
--- `text::shape::is_shaped` meets its contract. Each test of the code is one of those of the shape: of its length, its front and its rest.
 use mathlib.Core.Path.{sym, ◌∙◌}
-use lib.Seq.{length-take-le}
 use native.Mathlib.Omega.{arith}
-use borrow.Author.Rules.{rules}
-use borrow.Author.Tests.{not-true, not-false}
 use Rattle.marks.specs.Classes.{of}
-use Rattle.text.proofs.Shapes.{shaped-short, shaped-long, shaped-front, shaped-run}
+use Rattle.text.proofs.Shapes.{shaped-run}
 use Rattle.text.proofs.shape.is_shaped.Goals as goal
 
 pub returns : goal.returns
-returns c = let b = c in
-    let a = b.args in
-    shaped-run a.pattern.now a.longest (of a.class) a.text.now (omega arith) (omega arith) (sym b.has_shape.ensures ∙ not-false _ b.if-not-has_shape.false) c.run.result c.run.ensures
+returns c =
+    let a = c.args in
+    shaped-run a.pattern.now a.longest (of a.class) a.text.now (omega arith) (omega arith) (sym c.has_shape.ensures ∙ c.if-not-has_shape.false) c.run.result c.run.ensures

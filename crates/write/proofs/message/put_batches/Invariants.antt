@@ -1,14 +1,9 @@
 -- `write::message::put_batches` meets its contract. The invariant: what is written, with the batches from k on after it, is all of them.
-use Rattle.write.proofs.Rounds.{batches-go, batches-end, batches-all}
-use Rattle.batched.proofs.Going.{Going, going_start, going_on, going_end}
+use Rattle.batched.proofs.Going.{Going}
 use Rattle.batched.specs.Ready.{creditor_at, batch_room, batches_from}
 use Rattle.collections.specs.Listed.{listed}
 use Rattle.written.specs.Pieces.{batches_bytes}
-use Rattle.laws.specs.Bytes.{Bytes}
-use mathlib.Core.Path.{subst}
 use Prim.Native.Nat.{◌+◌, ◌-◌, ◌*◌, ◌≤◌}
-use native.Mathlib.Omega.{arith}
-use borrow.Author.Rules.{rules}
 use Rattle.write.proofs.message.put_batches.Given as goal
 
 abbrev pub invariant-loop-k : goal.invariant-loop-k

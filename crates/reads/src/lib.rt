@@ -1,0 +1,47 @@
+// Input into a buffer that the caller lends.
+#![tactic(auto)]
+
+ghost use Rattle.std.specs.Prelude.{IfOk, IfSome, length, take, ◌≤◌, ◌<◌};
+ghost use Rattle.std.specs.Io.{ReadsAtMost};
+ghost use Rattle.std.specs.Io.KnownBytes.{Consumes, IsAtEnd};
+
+use std::io::{Error, ErrorKind, Read};
+use std::rt::Files;
+use std::{fs, io};
+
+// Reads until the buffer is full or the input ends, and returns how many bytes it put at the start of the buffer.
+pub fn read_full<R: Read>(input: &mut R, buf: &mut [u8]) -> io::Result<usize>
+    ensures bound { ReadsAtMost result buf.new }
+    ensures bytes { IfOk result (λ n. Consumes (R.remaining input.old) (R.remaining input.new) (take n buf.new)) }
+    ensures end { IfOk result (λ n. n < length buf.new → IsAtEnd (R.remaining input.new)) }
+{
+    let mut done = 0;
+    while done < buf.len() {
+        let n = input.read(&mut buf[done..])?;
+        if n == 0 {
+            break;
+        }
+        done += n;
+    }
+    Ok(done)
+}
+
+// The same from the start of the file at a path; `None` where it cannot be opened, which a line on standard error says.
+pub fn read_file(
+    rt: &(impl Files + Eprint),
+    path: &[u8],
+    buf: &mut [u8],
+) -> io::Result<Option<usize>>
+    ensures { IfOk result (λ read. IfSome read (λ n. n ≤ length buf.new)) }
+{
+    let Ok(path) = str::from_utf8(path) else {
+        return Err(Error::new(ErrorKind::InvalidData, "a path that is not UTF-8"));
+    };
+    match fs::open(rt, path) {
+        Ok(mut file) => Ok(Some(read_full(&mut file, buf)?)),
+        Err(e) => {
+            eprintln!(rt; "{path}: {e}")?;
+            Ok(None)
+        }
+    }
+}
