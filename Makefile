@@ -1,16 +1,16 @@
-# make demo        both jobs on examples, run and not proved                          10 seconds
-# make desk        target/desk, the command, over the proved library                  4 minutes
-# make lib         target/staticlib/libdesk.a, for C programs with include/desk.h     4 minutes
-# make test        the gate: every proof, must-fail edit, program and comparison      20 minutes
-# make install     command, library, header, man page: PREFIX=/usr/local DESTDIR=     4 minutes
+# make demo        both jobs on examples, run and not proved                          a minute
+# make desk        target/desk, the command, over the proved library                  some minutes
+# make lib         target/staticlib/libdesk.a, for C programs with include/desk.h     some minutes
+# make test        the gate: every proof, must-fail edit, program and comparison      the longest of these
+# make install     command, library, header, man page: PREFIX=/usr/local DESTDIR=     some minutes
 # make uninstall   removes what install put there, with the same PREFIX and DESTDIR   at once
-# make dist        target/desk-VERSION-x86_64-linux.tar.gz, to use without the kit    4 minutes
-# make bench       the library beside a checker and a writer by hand in C             5 minutes
-# make soak        the library beside the second program, fresh seeds: SECONDS=600    14 minutes
-# make clean       removes target/                                                    at once
+# make dist        target/desk-VERSION-x86_64-linux.tar.gz, to use without the kit    some minutes
+# make bench       the library beside a checker and a writer by hand in C             some minutes
+# make soak        the library beside the second program, fresh seeds: SECONDS=600    10 minutes more
+# make clean       removes target/ and what rt keeps beside the crates                at once
 #
-# The times are about those of a first run on two cores. What is proved and has not changed is
-# not proved again, except by make test.
+# The times are about those of a first run (docs/TIMES.md). What is proved and has not changed is
+# not proved again: rt keeps it on this machine, for make test too.
 .PHONY: help kit demo desk lib test install uninstall dist bench soak clean
 .SILENT:
 PREFIX = /usr/local
@@ -52,4 +52,4 @@ soak:
 	./tools/soak $(or $(SECONDS),600)
 
 clean:
-	rm -rf target
+	rm -rf target crates/*/out
