@@ -1,5 +1,6 @@
 // The check of a message.
 #![tactic(auto)]
+
 ghost use Rattle.std.specs.Prelude.{T};
 ghost use Rattle.marks.specs.Ranks.{ranked};
 ghost use Rattle.tree.specs.Pain008.{document};
