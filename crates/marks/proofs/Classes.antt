@@ -9,10 +9,11 @@
 --   fits_all                    a text is of a class where each mark of its pattern is of a class whose marks stand for such bytes
 --   or_rest                     of two tests of which one holds, the second holds where the first fails
 --   letter-within               a byte of a run is in the letter set, by one computed test of the run
+--   lettered, letter_ranges     the letter set as ranges and single bytes, by one computed test of every byte
 --   value-digit, value-capital, value-small, value_le   what a letter or digit is read as
 use Prim.Native.Nat.{ℕ, ◌+◌, ◌-◌, ◌≤◌, ◌<◌}
 use native.Mathlib.Omega.{arith}
-use mathlib.Core.Bool.{Bool, true, false, ◌&&◌, ◌||◌}
+use mathlib.Core.Bool.{Bool, true, false, not, ◌&&◌, ◌||◌, beq}
 use mathlib.Core.List.{[], ◌∷◌}
 use mathlib.Core.Path.{◌≡◌, refl, sym}
 use lib.Dec.{T, eqb, leb}
@@ -21,8 +22,8 @@ use borrow.Author.Tests.{leb-true, ne_eqb}
 use Rattle.laws.specs.Bytes.{Bytes, between, all, span, has}
 use Rattle.laws.proofs.Tests.{and_l, and_r, and_both, T_true, true-T, bool_cases, eqb-cases}
 use Rattle.laws.proofs.Loops.{drop-step, all_end, all-at, all_take, all_drop, span-whole, span-part}
-use Rattle.laws.proofs.Below.{every, within}
-use Rattle.marks.specs.Marks.{digit, capital, letter_or_digit, letter, mark, fits, letter_value}
+use Rattle.laws.proofs.Below.{every, below, within}
+use Rattle.marks.specs.Marks.{digit, capital, small, letter_or_digit, letter, mark, fits, letter_value}
 
 -- ─── of every byte ───
 
@@ -82,11 +83,24 @@ module _ (m q : ℕ → Bool) (f : (p c : ℕ) → T (m p) → T (mark p c) → 
 
 -- ─── the letter set ───
 
+beq_eq : (a b : Bool) → T (beq a b) → a ≡ b
+beq_eq true true t = refl
+beq_eq true false t = absurd t
+beq_eq false true t = absurd t
+beq_eq false false t = refl
+
 pub or_rest : (a b : Bool) → a ≡ false → T (a || b) → T b
 or_rest a b e t = rw e at t
 
 pub letter-within : (a n c : ℕ) → a ≤ c → c < a + n → T (every n (λ k. letter (a + k))) → true ≡ letter c
 letter-within a n c l h t = sym (T_true (letter c) (within a n letter t c l h))
+
+-- as ranges and single bytes: ' to : but for *, space and ?
+abbrev pub lettered : ℕ → Bool
+lettered c = ((capital c || small c) || (between 39 58 c && not (eqb c 42))) || (eqb c 32 || eqb c 63)
+
+pub letter_ranges : (c : ℕ) → c < 256 → lettered c ≡ letter c
+letter_ranges c h = beq_eq (lettered c) (letter c) (below 256 (λ k. beq (lettered k) (letter k)) tt c h)
 
 -- ─── what a letter or digit is read as ───
 
