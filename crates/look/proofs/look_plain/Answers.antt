@@ -11,4 +11,4 @@ pub returns : goal.returns
 returns c =
     let e = c.run_end-end.ensures in
     let w = run_in (at_least c.args.least) c.args.s.now c.args.at _ c.requires.0 e in
-    plain-text c.args.least c.requires.1.1 c.args.s.now c.args.at _ c.args.longest c.requires.0 e (omega (arith, c.if-end-s.false, w)) c.if-s-end-ne60.false c.if-end-at.false (omega arith)
+    plain-text c.args.least c.requires.1.1 c.args.s.now c.args.at _ c.args.longest c.requires.0 e (omega (arith, c.if-end-s.false, w)) (omega arith) c.if-end-at.false (omega arith)
