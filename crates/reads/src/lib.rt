@@ -5,7 +5,7 @@ ghost use Rattle.std.specs.Prelude.{IfOk, IfSome, length, take, ◌≤◌, ◌<�
 ghost use Rattle.std.specs.Io.{ReadsAtMost};
 ghost use Rattle.std.specs.Io.KnownBytes.{Consumes, IsAtEnd};
 
-use std::io::{Error, ErrorKind, Read};
+use std::io::Read;
 use std::rt::Files;
 use std::{fs, io};
 
@@ -26,7 +26,8 @@ pub fn read_full<R: Read>(input: &mut R, buf: &mut [u8]) -> io::Result<usize>
     Ok(done)
 }
 
-// The same from the start of the file at a path; `None` where it cannot be opened, which a line on standard error says.
+// The same from the start of the file at a path; `None` where it cannot be opened, which a line on standard error says. The paths of std are texts: one
+// that is not UTF-8 cannot be opened.
 pub fn read_file(
     rt: &(impl Files + Eprint),
     path: &[u8],
@@ -35,7 +36,8 @@ pub fn read_file(
     ensures { IfOk result (λ read. IfSome read (λ n. n ≤ length buf.new)) }
 {
     let Ok(path) = str::from_utf8(path) else {
-        return Err(Error::new(ErrorKind::InvalidData, "a path that is not UTF-8"));
+        eprintln!(rt; "a path that is not UTF-8 cannot be opened")?;
+        return Ok(None);
     };
     match fs::open(rt, path) {
         Ok(mut file) => Ok(Some(read_full(&mut file, buf)?)),
