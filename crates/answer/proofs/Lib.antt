@@ -1,3 +1,2 @@
--- Answers   what each stage finds, and the stages in a row      Right   the answer is the verdict
-pub mod Answers
+-- Right   the answer is the verdict
 pub mod Right

@@ -18,7 +18,9 @@ use Rattle.message.specs.Message as M
 use Rattle.message.specs.Message.{the, batches_of, exact_count, exact_sum}
 use Rattle.message.specs.Addresses.{Party, parties_of, mix_of}
 use Rattle.message.specs.Verdict.{Room, Verdict, verdict, at, first, or_else, unless, unless_at, place_in, mix_fault, differs, batch_fault, totals_of, verdict_of}
-use Rattle.heard.specs.State.{when, Word, Limit, Mixes, over, count_of, sum_of, State, shut}
+use Rattle.heard.specs.declared.Limit.{Limit}
+use Rattle.heard.specs.declared.Word.{Word}
+use Rattle.heard.specs.State.{when, Mixes, over, count_of, sum_of, State, shut}
 use Rattle.heard.specs.Row.{Row}
 use Rattle.heard.specs.Bounds.{Within}
 use Rattle.heard.proofs.Words.{word_of, count_word, sum-word}

@@ -4,19 +4,19 @@
 --   count_found w n, sum_found w c   the header's count, and its sum, where they are declared and differ
 --   answer r w y     what is answered where r is the room of the tables
 --   stage_fault       what a stage of the code says
-use Rattle.std.specs.Prelude.{◌*◌, [], ◌∷◌, eqb, leb}
+use Rattle.std.specs.Prelude.{◌*◌, [], ◌∷◌, eqb, leb, Result, Ok, Err}
 use Rattle.std.proofs.Math.Option.{Option, none, some}
 use Rattle.profile.specs.declared.NumberOfTransactions.{NumberOfTransactions}
 use Rattle.profile.specs.declared.ControlSum.{ControlSum}
 use Rattle.profile.specs.declared.Totals.{Totals}
+use Rattle.profile.specs.declared.Refusal.{Refusal}
 use Rattle.profile.specs.Refusals.{Fault, fault, fault_of}
 use Rattle.profile.specs.Totals.{count_differs, sum_differs}
 use Rattle.tree.specs.Parts as part
 use Rattle.message.specs.Verdict.{Room, Verdict, verdict, at, first, unless}
-use Rattle.heard.specs.State.{if_true, when, Word, over, count_of, sum_of}
+use Rattle.heard.specs.declared.Word.{Word}
+use Rattle.heard.specs.State.{if_true, when, over, count_of, sum_of}
 use Rattle.heard.specs.Row.{Row}
-use Rattle.answer.specs.declared.Stage.{Stage}
-use Rattle.answer.specs.declared.Stage.TheVariants.{Passed, Refused as Stopped}
 
 abbrev pub mix_found : Option Fault → Option Fault
 mix_found none = none
@@ -47,6 +47,6 @@ answer r w y =
     ∷ []))
     y
 
-abbrev pub stage_fault : Stage → Option Fault
-stage_fault Passed = none
-stage_fault (Stopped x) = some (fault_of x)
+abbrev pub stage_fault : Result Unit Refusal → Option Fault
+stage_fault (Ok u) = none
+stage_fault (Err x) = some (fault_of x)

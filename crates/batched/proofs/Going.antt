@@ -1,27 +1,19 @@
 -- A LOOP OF WRITERS: what is written so far, with what is still to be written after it, is the whole.
---   Going out₀ at whole out to rest      the loop began with the output out₀ at the place `at`; it has come to the output `out` and the place `to`, and `rest` is left
---   going_start, going_on, going_end     nothing is written; one piece more is; nothing is left
-use Prim.Native.Nat.{ℕ}
+--   Going o₀ whole o rest                the loop began with the output o₀ and has come to the output o, and `rest` is left
+--   going_on, going_end                  one piece more is written; nothing is left
 use mathlib.Core.List.{[], ◌++◌}
-use mathlib.Core.Path.{◌≡◌, refl, ◌∙◌}
-use lib.ListN.{length}
+use mathlib.Core.Path.{◌≡◌}
 use Rattle.laws.specs.Bytes.{Bytes}
+use Rattle.put.specs.declared.Output.{Output}
 use Rattle.put.specs.Wrote.{Wrote}
 use Rattle.put.proofs.Writes.{wrote_nil, wrote_then}
 
-pub record Going (out₀ : Bytes) (at : ℕ) (whole out : Bytes) (to : ℕ) (rest : Bytes) : Type 0 where
-  pub same : length out ≡ length out₀
-  pub then : (o : Bytes) (r : ℕ) → Wrote out o to r rest → Wrote out₀ o at r whole
+pub record Going (o₀ : Output) (whole : Bytes) (o : Output) (rest : Bytes) : Type 0 where
+  pub then : (o' : Output) → Wrote o o' rest → Wrote o₀ o' whole
 
-pub going_start : (out : Bytes) (at : ℕ) (whole : Bytes) → Going out at whole out at whole
-going_start out at whole = record { same = refl; then = λ o r w. w }
+module _ {o₀ : Output} {whole : Bytes} {o : Output} {rest : Bytes} (g : Going o₀ whole o rest) where
+  pub going_on : {o' : Output} (piece rest' : Bytes) → rest ≡ piece ++ rest' → Wrote o o' piece → Going o₀ whole o' rest'
+  going_on {o'} piece rest' e w = record { then = λ o'' v. g.then o'' (rw e (wrote_then piece rest' w v)) }
 
-module _ {out₀ : Bytes} {at : ℕ} {whole out : Bytes} {to : ℕ} {rest : Bytes} (g : Going out₀ at whole out to rest) where
-  pub going_on : {o : Bytes} {next : ℕ} (piece rest' : Bytes) → rest ≡ piece ++ rest' → Wrote out o to next piece → Going out₀ at whole o next rest'
-  going_on {o} {next} piece rest' e w = record {
-    same = w.same ∙ g.same;
-    then = λ o' r v. g.then o' r (rw e (wrote_then piece rest' w v));
-  }
-
-  pub going_end : rest ≡ [] → Wrote out₀ out at to whole
-  going_end e = g.then out to (rw e (wrote_nil out to))
+  pub going_end : rest ≡ [] → Wrote o₀ o whole
+  going_end e = g.then o (rw e (wrote_nil o))

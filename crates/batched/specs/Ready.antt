@@ -1,7 +1,7 @@
 -- WHAT THE WRITERS OF A MESSAGE ASK of the list, its table of starts and its labels. Not to be believed: a list that is judged good, with its table and labels, has it all (`ready`).
 --   collection_at s a, creditor_at s       the collection of the line from a on; the creditor of the first line
 --   ListReady s table labels             s has its creditor, and each collection is found by the table and has a label
---   BatchReady .. k, BatchesReady .. m   a collection has the label k; for each label below m one has it
+--   BatchesReady .. m                    for each label below m a collection has it
 --   batch_room                            no batch has more bytes
 --   batches_from k m labels xs            m batches from number k on: each the collections of xs that have its label
 --   message_by s labels m                 the bytes of the message of the list s whose m batches have these labels
@@ -32,11 +32,6 @@ pub record ListReady (s : Bytes) (table labels : List ℕ) : Type 0 where
   pub frame : (i : ℕ) → i < length labels → framed collection_frame (unhex (line_from s (get_or table (i + 1) 0))) ≡ true
   pub is : (i : ℕ) → i < length labels → collection_at s (get_or table (i + 1) 0) ≡ get_or (listed s) i no_collection
   pub cents : (i : ℕ) → i < length labels → (get_or (listed s) i no_collection).cents ≤ most_cents
-
-pub record BatchReady (s : Bytes) (table labels : List ℕ) (k : ℕ) : Type 0 where
-  pub ready : ListReady s table labels
-  pub some : 1 ≤ count (eqb k) labels
-  pub under : k < most_batches
 
 pub record BatchesReady (s : Bytes) (table labels : List ℕ) (m : ℕ) : Type 0 where
   pub ready : ListReady s table labels

@@ -1,164 +1,142 @@
-// A batch of the message: the collections that have its label, each found by the table of line starts. Batches are labelled from 0 and numbered from 1.
+// The batches of the message: of each, the collections that have its label, each found by the table of line starts. Batches are labelled from 0 and numbered from 1.
 #![tactic(auto)]
 
-ghost use Rattle.std.specs.Prelude.{◌≡◌, true, not, [], ◌+◌, ◌*◌, ◌≤◌, ◌<◌, ◌^◌, eqb, length};
+ghost use Rattle.std.specs.Prelude.{◌≡◌, true, not, ◌+◌, ◌*◌, ◌≤◌, ◌<◌, ◌^◌, eqb, length, get_or};
 ghost use Rattle.laws.specs.Bytes.{span};
-ghost use Rattle.laws.specs.Lists.{put_if, total, count, gather};
+ghost use Rattle.laws.specs.Lists.{total, count, gather};
 ghost use Rattle.frames.specs.Hex.{unhex};
 ghost use Rattle.frames.specs.Lines.{line_from};
-ghost use Rattle.frames.specs.Frames.{framed, creditor_frame, collection_frame};
+ghost use Rattle.frames.specs.Frames.{framed, collection_frame};
 ghost use Rattle.profile.specs.Limits.{most_cents};
 ghost use Rattle.bundle.specs.Labels.{pick};
 ghost use Rattle.put.specs.Wrote.{Wrote};
-ghost use Rattle.collections.specs.Listed.{listed};
-ghost use Rattle.written.specs.Pieces.{transaction_bytes, terms_bytes, creditor_bytes, batch_bytes};
-ghost use Rattle.batched.specs.Ready.{collection_at, creditor_at, ListReady, BatchReady, batch_room};
+ghost use Rattle.collections.specs.Listed.{listed, collection_of};
+ghost use Rattle.written.specs.Written.{no_collection, terms_of};
+ghost use Rattle.written.specs.Pieces.{transaction_bytes, batch_bytes};
+ghost use Rattle.batched.specs.Ready.{collection_at, creditor_at, BatchesReady, batch_room};
 
+use pieces::head::{self, Sums};
+use pieces::line::{CollectionLine, CreditorLine};
+use pieces::transaction;
 use profile::{ControlSum, NumberOfTransactions};
+use put::Output;
 
-// ─── a line ───
-
-// The cents of the line that starts at a place, where it is one of the batch, else 0. They stand in its first eight bytes, in 16 digits.
-fn own_cents(list: &[u8], start: usize, own: bool) -> ControlSum
-    requires start_in_bounds { start ≤ length list.now }
-    requires start_value { framed collection_frame (unhex (line_from list.now start)) ≡ true }
-    ensures { result.0 ≡ total (λ x. x.cents) (put_if own (collection_at list.now start) []) }
-{
-    if own {
-        return pieces::transaction::cents_of(&list[start..start + 16]);
-    }
-    ControlSum(0)
+// A list with the place where each of its lines starts, the label of each collection, and the number of batches. It has its creditor, each collection is found by the
+// table, and each batch has a collection.
+// Starts and labels stay two rows: the one is filled in a walk over the list, the other by `bundle`, which knows no list.
+#[derive(Clone, Copy)]
+pub struct Batches<'a> {
+    pub list: &'a [u8],
+    pub table: &'a [usize],
+    pub labels: &'a [u64],
+    pub count: u64,
+    pub ghost ready: { BatchesReady list.now table.now labels.now count },
 }
 
-// The transaction of the line that starts at a place, where it is one of the batch, else nothing.
-fn put_own(out: &mut [u8], at: usize, list: &[u8], start: usize, own: bool) -> usize
-    requires start_in_bounds { start ≤ length list.now }
-    requires start_value { framed collection_frame (unhex (line_from list.now start)) ≡ true }
-    requires at_bound { at + 2300 < 2 ^ 32 }
-    ensures wrote { Wrote out.old out.new at result (gather transaction_bytes (put_if own (collection_at list.now start) [])) }
-    ensures upper_bound { result ≤ at + 2300 }
-{
-    if own {
-        let end = daylist::lines::line_end(list, start);
-        return pieces::transaction::put_transaction(out, at, &list[start..end]);
-    }
-    at
-}
+impl<'a> Batches<'a> {
+    // ─── a line ───
 
-// The terms of the line that starts at a place.
-fn put_terms_at(out: &mut [u8], at: usize, list: &[u8], start: usize) -> usize
-    requires start_in_bounds { start ≤ length list.now }
-    requires start_value { framed collection_frame (unhex (line_from list.now start)) ≡ true }
-    requires at_bound { at + 400 < 2 ^ 32 }
-    ensures wrote { Wrote out.old out.new at result (terms_bytes (collection_at list.now start).terms) }
-    ensures upper_bound { result ≤ at + 400 }
-{
-    let end = daylist::lines::line_end(list, start);
-    pieces::head::put_terms(out, at, &list[start..end])
-}
-
-// The creditor, from the first line.
-fn put_creditor_at(out: &mut [u8], at: usize, list: &[u8]) -> usize
-    requires list_value { framed creditor_frame (unhex (line_from list.now 0)) ≡ true }
-    requires at_bound { at + 1300 < 2 ^ 32 }
-    ensures wrote { Wrote out.old out.new at result (creditor_bytes (creditor_at list.now)) }
-    ensures upper_bound { result ≤ at + 1300 }
-{
-    let end = daylist::lines::line_end(list, 0);
-    pieces::head::put_creditor(out, at, &list[0..end])
-}
-
-// ─── the collections of a batch ───
-
-// The first collection of the batch.
-fn first_of(labels: &[u64], batch: u64) -> usize
-    ensures { result ≡ span (λ l. not (eqb batch l)) labels.now }
-{
-    let mut i = 0;
-    while i < labels.len() {
-        if batch == labels[i] {
-            return i;
+    // The creditor's line, the first.
+    pub fn creditor(&self) -> CreditorLine<'a>
+        ensures { result.digits.now ≡ line_from self.now.list.now 0 }
+    {
+        let end = daylist::lines::line_end(self.list, 0);
+        CreditorLine {
+            digits: &self.list[..end],
         }
-        i += 1;
     }
-    i
-}
 
-// How many collections the batch has.
-pub fn count_of(labels: &[u64], batch: u64) -> NumberOfTransactions
-    ensures { result.0 ≡ count (eqb batch) labels.now }
-{
-    let mut met: u64 = 0;
-    let mut i = 0;
-    while i < labels.len() {
-        if batch == labels[i] {
-            met += 1;
+    // Where the line of a collection starts.
+    fn start_of(&self, i: usize) -> usize
+        requires { i < length self.now.labels.now }
+        ensures in_bounds { result ≤ length self.now.list.now }
+        ensures holds_frame { framed collection_frame (unhex (line_from self.now.list.now result)) ≡ true }
+        ensures value { collection_at self.now.list.now result ≡ get_or (listed self.now.list.now) i no_collection }
+    {
+        self.table[i + 1]
+    }
+
+    // The line of a collection.
+    fn collection(&self, i: usize) -> CollectionLine<'a>
+        requires { i < length self.now.labels.now }
+        ensures { collection_of (unhex result.digits.now) ≡ get_or (listed self.now.list.now) i no_collection }
+    {
+        let start = self.start_of(i);
+        let end = daylist::lines::line_end(self.list, start);
+        CollectionLine {
+            digits: &self.list[start..end],
         }
-        i += 1;
     }
-    NumberOfTransactions(met)
-}
 
-// The cents of the batch's collections.
-pub fn cents_of(list: &[u8], table: &[usize], labels: &[u64], batch: u64) -> ControlSum
-    requires { ListReady list.now table.now labels.now }
-    ensures result_value { result.0 ≡ total (λ x. x.cents) (pick batch labels.now (listed list.now)) }
-    ensures result_bound { result.0 ≤ most_cents * length labels.now }
-{
-    let mut cents: u64 = 0;
-    let mut i = 0;
-    while i < labels.len() {
-        cents += own_cents(list, table[i + 1], batch == labels[i]).0;
-        i += 1;
+    // The cents of a collection. They stand in the first eight bytes of its line, in 16 digits: so the end of the line is not looked for.
+    fn cents(&self, i: usize) -> ControlSum
+        requires { i < length self.now.labels.now }
+        ensures value { result.0 ≡ (get_or (listed self.now.list.now) i no_collection).cents }
+        ensures upper_bound { result.0 ≤ most_cents }
+    {
+        let start = self.start_of(i);
+        transaction::cents_of(&self.list[start..start + 16])
     }
-    ControlSum(cents)
-}
 
-// Their transactions, in list order.
-fn put_transactions(
-    out: &mut [u8],
-    at: usize,
-    list: &[u8],
-    table: &[usize],
-    labels: &[u64],
-    batch: u64,
-) -> usize
-    requires list_ready { ListReady list.now table.now labels.now }
-    requires labels_bound { at + 2300 * length labels.now < 2 ^ 32 }
-    ensures wrote { Wrote out.old out.new at result (gather transaction_bytes (pick batch labels.now (listed list.now))) }
-    ensures upper_bound { result ≤ at + 2300 * length labels.now }
-{
-    let mut to = at;
-    let mut i = 0;
-    while i < labels.len() {
-        to = put_own(out, to, list, table[i + 1], batch == labels[i]);
-        i += 1;
+    // ─── the collections of a batch ───
+
+    // The first of them; where there is none, the number of all collections.
+    fn first_of(&self, batch: u64) -> usize
+        ensures { result ≡ span (λ l. not (eqb batch l)) self.now.labels.now }
+    {
+        self.labels
+            .iter()
+            .position(|&label| label == batch)
+            .unwrap_or(self.labels.len())
     }
-    to
-}
 
-// ─── a batch ───
+    // How many there are, and their cents.
+    pub fn sums(&self, batch: u64) -> Sums
+        ensures transactions { result.transactions.0 ≡ count (eqb batch) self.now.labels.now }
+        ensures cents { result.cents.0 ≡ total (λ x. x.cents) (pick batch self.now.labels.now (listed self.now.list.now)) }
+        ensures cents_bound { result.cents.0 ≤ most_cents * length self.now.labels.now }
+    {
+        let mut transactions: u64 = 0;
+        let mut cents: u64 = 0;
+        for (i, &label) in self.labels.iter().enumerate() {
+            if label == batch {
+                transactions += 1;
+                cents += self.cents(i).0;
+            }
+        }
+        Sums {
+            transactions: NumberOfTransactions(transactions),
+            cents: ControlSum(cents),
+        }
+    }
 
-// The batch.
-pub fn put_batch(
-    out: &mut [u8],
-    at: usize,
-    list: &[u8],
-    table: &[usize],
-    labels: &[u64],
-    batch: u64,
-) -> usize
-    requires batch_ready { BatchReady list.now table.now labels.now batch }
-    requires batch_room_bound { at + batch_room < 2 ^ 32 }
-    ensures wrote { Wrote out.old out.new at result (batch_bytes (creditor_at list.now) (batch + 1) (pick batch labels.now (listed list.now))) }
-    ensures upper_bound { result ≤ at + batch_room }
-{
-    let count = count_of(labels, batch);
-    let cents = cents_of(list, table, labels, batch);
-    let first = first_of(labels, batch);
-    let totals = pieces::head::put_totals(out, at, batch + 1, count, cents);
-    let terms = put_terms_at(out, totals, list, table[first + 1]);
-    let head = put_creditor_at(out, terms, list);
-    let transactions = put_transactions(out, head, list, table, labels, batch);
-    put::put(out, transactions, b"</PmtInf>")
+    // Their transactions, in list order.
+    fn put_transactions(&self, out: &mut Output<'_>, batch: u64)
+        requires { out.old.at + 2300 * length self.now.labels.now < 2 ^ 32 }
+        ensures wrote { Wrote out.old out.new (gather transaction_bytes (pick batch self.now.labels.now (listed self.now.list.now))) }
+        ensures upper_bound { out.new.at ≤ out.old.at + 2300 * length self.now.labels.now }
+    {
+        for (i, &label) in self.labels.iter().enumerate() {
+            if label == batch {
+                transaction::put_transaction(out, &self.collection(i));
+            }
+        }
+    }
+
+    // ─── a batch ───
+
+    // The batch.
+    pub fn put_batch(&self, out: &mut Output<'_>, batch: u64)
+        requires batch_in_bounds { batch < self.now.count }
+        requires batch_room_bound { out.old.at + batch_room < 2 ^ 32 }
+        ensures wrote { Wrote out.old out.new (batch_bytes (creditor_at self.now.list.now) (batch + 1) (pick batch self.now.labels.now (listed self.now.list.now))) }
+        ensures upper_bound { out.new.at ≤ out.old.at + batch_room }
+    {
+        let sums = self.sums(batch);
+        head::put_totals(out, batch + 1, sums);
+        head::put_terms(out, &self.collection(self.first_of(batch)));
+        head::put_creditor(out, &self.creditor());
+        self.put_transactions(out, batch);
+        out.put(b"</PmtInf>");
+    }
 }

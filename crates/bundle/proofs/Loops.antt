@@ -1,13 +1,14 @@
 -- WHAT THE LOOPS OF src/lib.rt KEEP. ts are the codes; `get_or ts i 0` is the code of collection i.
 --   Met ts k m n            `mark`: n of the first m collections have the code k
---   Searching ts i j        `label`, the inner search: no collection before j has the code of collection i
+--   searching_on            `label`, the inner search: the code is not among those that it went past
+--   searched_new, searched_old   at its end: the code comes for the first time, or came before
 --   Counted c ts i n        `label`: n batches for the codes before i, with those that the other codes need, are the batches needed
 --   Marked .. m             `mark`: the collections of one code among the first m have their labels (the record is of specs/)
 --   Labelled c ts out i n   `label`: the collections of the codes before i have their labels, and n is the next free number
 -- Each holds at the start (-start), at one collection more (-same or -other; -new or -old, for a code that comes for the first time or came before), and says
 -- at the end (-all, -end) what the function ensures. counted-small: there are never more batches than collections. labels_length: there is a label for each.
 use Prim.Native.Nat.{ℕ, zero, suc, ◌+◌, ◌/◌, ◌≤◌, ◌<◌}
-use native.Mathlib.Nat.{zero-add, add-zero}
+use native.Mathlib.Nat.{zero-add, add-zero, le_refl}
 use native.Mathlib.Numerals.{add-one}
 use native.Mathlib.Omega.{arith}
 use native.Mathlib.Decide.{dec_lt}
@@ -104,25 +105,16 @@ module _ (ts : List ℕ) (i : ℕ) (h : i < length ts) where
 
 -- ─── the inner search ───
 
-pub record Searching (ts : List ℕ) (i j : ℕ) : Type 0 where
-  pub here : i < length ts
-  pub upto : j ≤ i
-  pub none : earlier ts j (get_or ts i 0) ≡ 0
+-- the code k is not among the first j of ts; at j it is found, or the search goes on, and at the end it comes for the first time
+module _ (ts : List ℕ) (j k : ℕ) where
+  pub searching_on : j < length ts → get_or ts j 0 ≢ k → earlier ts j k ≡ 0 → earlier ts (j + 1) k ≡ 0
+  searching_on h n e = omega (arith, e, earlier_step ts j k h, ap one (ne_eqb k (get_or ts j 0) (λ f. n (sym f))))
 
-module _ (ts : List ℕ) (i j : ℕ) (s : Searching ts i j) where
-  pub searching_on : j < i → get_or ts j 0 ≢ get_or ts i 0 → Searching ts i (j + 1)
-  searching_on h n = record {
-    here = s.here;
-    upto = omega arith;
-    none = omega (arith, s.none, earlier_step ts j (get_or ts i 0) (omega (arith, s.here)), ap one (ne_eqb (get_or ts i 0) (get_or ts j 0) (λ e. n (sym e))));
-  }
+  pub searched_new : length ts ≤ j → earlier ts j k ≡ 0 → count (eqb k) ts ≡ 0
+  searched_new h e = rw (take_all j ts h) at e
 
-  -- the code of collection i comes for the first time, or came before
-  searched_new : i ≤ j → earlier ts i (get_or ts i 0) ≡ 0
-  searched_new h = let e : j ≡ i = omega (arith, s.upto) in rw e at s.none
-
-  searched_old : j < i → get_or ts j 0 ≡ get_or ts i 0 → 1 ≤ earlier ts i (get_or ts i 0)
-  searched_old h e = rw e at (earlier-found ts i j h (omega (arith, s.here)))
+  pub searched_old : j < length ts → get_or ts j 0 ≡ k → 1 ≤ count (eqb k) ts
+  searched_old h e = rw (e, take_all (length ts) ts (le_refl _)) at (earlier-found ts (length ts) j h h)
 
 -- ─── `label`: the batches counted ───
 
@@ -137,14 +129,11 @@ counted_start c ts = record {
 }
 
 module _ (c : ℕ) (ts : List ℕ) (i n : ℕ) (k : Counted c ts i n) where
-  counted_old : (j : ℕ) → Searching ts i j → j < i → get_or ts j 0 ≡ get_or ts i 0 → Counted c ts (i + 1) n
-  counted_old j s h e = record { within = omega (arith, s.here); sum = omega (arith, k.sum, ap (total (size_of eqb c ts)) (left_old ts i s.here (searched_old ts i j s h e))) }
+  counted_old : i < length ts → 1 ≤ earlier ts i (get_or ts i 0) → Counted c ts (i + 1) n
+  counted_old h s = record { within = omega arith; sum = omega (arith, k.sum, ap (total (size_of eqb c ts)) (left_old ts i h s)) }
 
-  counted_new : (j r : ℕ) → Searching ts i j → i ≤ j → r ≡ size_of eqb c ts (get_or ts i 0) → Counted c ts (i + 1) (n + r)
-  counted_new j r s h e = record {
-    within = omega (arith, s.here);
-    sum = omega (arith, k.sum, ap (total (size_of eqb c ts)) (left_new ts i s.here (searched_new ts i j s h)));
-  }
+  counted_new : (r : ℕ) → i < length ts → earlier ts i (get_or ts i 0) ≡ 0 → r ≡ size_of eqb c ts (get_or ts i 0) → Counted c ts (i + 1) (n + r)
+  counted_new r h s e = record { within = omega arith; sum = omega (arith, k.sum, ap (total (size_of eqb c ts)) (left_new ts i h s)) }
 
   pub counted-end : length ts ≤ i → n ≡ need_of c ts
   counted-end h = omega (arith, rw (drop_of_length-le ts h) at k.sum)
@@ -218,40 +207,34 @@ labelled_start c ts out h = record {
 }
 
 module _ (c : ℕ) (ts out : List ℕ) (i n : ℕ) (w : Labelled c ts out i n) where
-  pub labelled_old : (j : ℕ) → Searching ts i j → j < i → get_or ts j 0 ≡ get_or ts i 0 → Labelled c ts out (i + 1) n
-  labelled_old j s h e = record { counted = counted_old c ts i n w.counted j s h e; size = w.size; next = next; done = done }
+  pub labelled_old : i < length ts → 1 ≤ earlier ts i (get_or ts i 0) → Labelled c ts out (i + 1) n
+  labelled_old h seen = record { counted = counted_old c ts i n w.counted h seen; size = w.size; next = next; done = done }
     where
-      seen : 1 ≤ earlier ts i (get_or ts i 0)
-      seen = searched_old ts i j s h e
-
       next : (k : ℕ) → earlier ts (i + 1) k ≡ 0 → base_of c ts k ≡ n + base eqb (size_of eqb c ts) k (left (take (i + 1) ts) (drop (i + 1) ts))
-      next k z = rw (left_old ts i s.here seen) at (w.next k (omega (arith, earlier_step ts i k s.here)))
+      next k z = rw (left_old ts i h seen) at (w.next k (omega (arith, earlier_step ts i k h)))
 
       done : (m : ℕ) → m < length ts → 1 ≤ earlier ts (i + 1) (get_or ts m 0) → get_or out m 0 ≡ label_of c ts m
       done m b f = w.done m b (eqb-cases (λ z. earlier ts (i + 1) (get_or ts m 0) ≡ earlier ts i (get_or ts m 0) + one z → 1 ≤ earlier ts i (get_or ts m 0)) (get_or ts m 0) (get_or ts i 0)
-          (λ g q. rw g seen) (λ g q. omega arith) (earlier_step ts i (get_or ts m 0) s.here))
+          (λ g q. rw g seen) (λ g q. omega arith) (earlier_step ts i (get_or ts m 0) h))
 
-  pub labelled_new : (j : ℕ) (new : List ℕ) → Searching ts i j → i ≤ j → Marked c n (get_or ts i 0) ts out new (length ts)
+  pub labelled_new : (new : List ℕ) → i < length ts → earlier ts i (get_or ts i 0) ≡ 0 → Marked c n (get_or ts i 0) ts out new (length ts)
       → Labelled c ts new (i + 1) (n + size_of eqb c ts (get_or ts i 0))
-  labelled_new j new s h m = record { counted = counted_new c ts i n w.counted j _ s h refl; size = m.size ∙ w.size; next = next; done = done }
+  labelled_new new h none m = record { counted = counted_new c ts i n w.counted _ h none refl; size = m.size ∙ w.size; next = next; done = done }
     where
-      none : earlier ts i (get_or ts i 0) ≡ 0
-      none = searched_new ts i j s h
-
       -- the first batch of a new code is the next free one
       base_new : base_of c ts (get_or ts i 0) ≡ n
-      base_new = w.next (get_or ts i 0) none ∙ rw (left_new ts i s.here none, eq-eqb (get_or ts i 0) (get_or ts i 0) refl) (add-zero n)
+      base_new = w.next (get_or ts i 0) none ∙ rw (left_new ts i h none, eq-eqb (get_or ts i 0) (get_or ts i 0) refl) (add-zero n)
 
       next : (k : ℕ) → earlier ts (i + 1) k ≡ 0
           → base_of c ts k ≡ n + size_of eqb c ts (get_or ts i 0) + base eqb (size_of eqb c ts) k (left (take (i + 1) ts) (drop (i + 1) ts))
       next k z =
-          let o : k ≢ get_or ts i 0 = λ e. omega (arith, earlier_step ts i k s.here, ap one (eq-eqb k (get_or ts i 0) e)) in
-          w.next k (omega (arith, earlier_step ts i k s.here)) ∙ rw (left_new ts i s.here none, ne_eqb k (get_or ts i 0) o) (omega arith)
+          let o : k ≢ get_or ts i 0 = λ e. omega (arith, earlier_step ts i k h, ap one (eq-eqb k (get_or ts i 0) e)) in
+          w.next k (omega (arith, earlier_step ts i k h)) ∙ rw (left_new ts i h none, ne_eqb k (get_or ts i 0) o) (omega arith)
 
       done : (m : ℕ) → m < length ts → 1 ≤ earlier ts (i + 1) (get_or ts m 0) → get_or new m 0 ≡ label_of c ts m
       done l b f = eqb-cases (λ z. earlier ts (i + 1) (get_or ts l 0) ≡ earlier ts i (get_or ts l 0) + one z → get_or new l 0 ≡ label_of c ts l) (get_or ts l 0) (get_or ts i 0)
           (λ e q. subst (λ (k : ℕ). get_or new l 0 ≡ base_of c ts k + earlier ts l k / c) (sym e) (rw base_new (m.own l b e)))
-          (λ e q. m.other l e ∙ w.done l b (omega arith)) (earlier_step ts i (get_or ts l 0) s.here)
+          (λ e q. m.other l e ∙ w.done l b (omega arith)) (earlier_step ts i (get_or ts l 0) h)
 
   pub labelled_end : length ts ≤ i → out ≡ labels_of c ts
   labelled_end h = ext_get_or 0 out (labels_of c ts) (w.size ∙ sym (length-labels_from _ c [] ts))

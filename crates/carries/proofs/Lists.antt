@@ -10,6 +10,7 @@ use mathlib.Core.List.{List}
 use mathlib.Core.Path.{◌≡◌, ap, ◌∙◌}
 use mathlib.Core.Logic.{◌↔◌}
 use lib.ListN.{length}
+use Rattle.std.specs.Prelude.{Ok}
 use Rattle.laws.specs.Bytes.{Bytes}
 use Rattle.laws.specs.Lists.{concat}
 use Rattle.profile.specs.Limits.{most_batches, most_collections}
@@ -20,7 +21,6 @@ use Rattle.message.specs.Message.{batches_of}
 use Rattle.message.specs.Verdict.{Verdict, Verdict.accepted, totals_of}
 use Rattle.promise.specs.Check.{said_by, Checks}
 use Rattle.promise.proofs.Demand2.{demand_2_accepts}
-use Rattle.daylist.specs.declared.JudgedList.TheVariants.{Good}
 use Rattle.daylist.specs.Stages.{judged_list}
 use Rattle.daylist.proofs.Goods.{good-list}
 use Rattle.bundle.specs.Bundle.{Same, need}
@@ -35,7 +35,7 @@ use Rattle.carries.proofs.Sums.{same_length, same_total}
 use Rattle.carries.proofs.Exact.{totals_in, same-totals, totals-carried}
 use Rattle.carries.proofs.Demand3.{message-carried, message-carries, message-fewest, refused-exactly}
 
-module _ (s : Bytes) (c n : ℕ) (e : judged_list s c ≡ Good n) where
+module _ (s : Bytes) (c n : ℕ) (e : judged_list s c ≡ Ok n) where
   some : 1 ≤ length (listed s)
   some = omega (arith, good-number s c n e, (good-list s c n e).some)
 

@@ -13,6 +13,7 @@ use mathlib.Core.Option.{Option, none, some}
 use mathlib.Core.Path.{◌≡◌, refl, ap, ap₂, sym, subst, ◌∙◌}
 use lib.Dec.{T}
 use lib.ListN.{length, length-map, length-append}
+use Rattle.std.specs.Prelude.{Ok}
 use Rattle.laws.specs.Bytes.{Bytes}
 use Rattle.laws.specs.Lists.{All, concat, gather, number}
 use Rattle.laws.specs.Sections.{last_or}
@@ -22,10 +23,8 @@ use Rattle.laws.proofs.Sections.{length-all}
 use Rattle.laws.proofs.Counts.{All-append, All-map}
 use Rattle.profile.specs.Limits.{most_bytes, most_batches, most_collections}
 use Rattle.put.specs.Numerals.{decimal, euros, batch_id}
-use Rattle.text.specs.declared.Judged.{Judged}
-use Rattle.text.specs.declared.Judged.TheVariants.{Good}
 use Rattle.text.specs.declared.Rule.TheVariants.{Count, Sum}
-use Rattle.text.specs.Rules.{good, number_told, identifier, count, sum, amount, scheme, sequence, bic, remittance}
+use Rattle.text.specs.Rules.{Judged, good, number_told, identifier, count, sum, amount, scheme, sequence, bic, remittance}
 use Rattle.tree.specs.Form.{message}
 use Rattle.tree.specs.Pain008.{declaration}
 use Rattle.tree.specs.Parts as part
@@ -129,7 +128,7 @@ a and b = (a, b)
 abbrev Fine : List Content → Type 0
 Fine cs = All (λ c. T (good c.judged)) cs
 
-told-good : (j : Judged) (n : ℕ) → j ≡ Good n → T (good j)
+told-good : (j : Judged) (n : ℕ) → j ≡ Ok n → T (good j)
 told-good j n e = rw e tt
 
 bank-fine : (p : ℕ) (b : Bytes) → T (empty_or bic b) → Fine (bank_held p b)

@@ -13,8 +13,7 @@ use Rattle.laws.specs.Bytes.{Bytes}
 use Rattle.laws.specs.Lists.{total, All, concat}
 use Rattle.laws.specs.Sections as sections
 use Rattle.profile.specs.Limits.{most_batches, most_transactions}
-use Rattle.text.specs.declared.Judged.{Judged}
-use Rattle.text.specs.Rules.{number_told, good}
+use Rattle.text.specs.Rules.{Judged, number_told, good}
 use Rattle.tree.specs.declared.Kind.{Kind}
 use Rattle.tree.specs.Form.{Elem, Items, Tree, Kids, part, kind, Tree.tree, Kids.end, Kids.skip, Kids.take as take'}
 use Rattle.tree.specs.Parts as part

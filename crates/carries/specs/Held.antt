@@ -1,8 +1,8 @@
 -- WHAT THE WRITTEN MESSAGE HOLDS, element by element. Not to be believed: `message-held` says that these are the contents of the message's tree.
 --   box p, txt p r s                            an element that holds elements; an element with a text
 --   bank_held p s, remittance_held s              a bank; RmtInf or nothing
---   transaction_held x, head_held cr n xs         drct_dbt_tx_inf; pmt_inf up to its first transaction
---   batch_held cr (n, xs)                        pmt_inf, batch n of the collections xs
+--   transaction_held x, head_held cr n xs         DrctDbtTxInf; PmtInf up to its first transaction
+--   batch_held cr (n, xs)                        PmtInf, batch n of the collections xs
 --   message_held cr bs                           the whole
 use Rattle.std.specs.Prelude.{ℕ, List, [], ◌∷◌, ◌++◌, length}
 use Rattle.laws.specs.Bytes.{Bytes, ascii}

@@ -1,19 +1,20 @@
 -- A WALK OF THE CHECK over the message's events, which answers and fills the tables that it is lent; and what the check makes of it.
 --   events-said       what is heard of the events is what is heard of what they say
+--   Walked, walked    what reading promised; within-begun: at the beginning the numbers are small
 --   Read, was_read    what a message that was read says, and what was heard of it
 --   small, totals-fit what was read keeps its numbers small
---   verdict-long, verdict-stuck, verdict-judged   the answer of a walk
---   filled-long, filled-stuck, filled             the tables of a walk
---   lent_none, filled_lent   a table of which nothing was lent, and its filling then
+--   verdict-refused, verdict-judged   the answer of a walk
+--   filled-refused, filled            the tables of a walk
 --   Passed            an accepted message is read, its totals are the exact ones, and the tables have room for it
 --   check_refused, check_accepted   the check: refused; accepted, and the tables filled
-use Prim.Native.Nat.{ℕ, ◌+◌, ◌-◌, ◌≤◌}
+use Prim.Native.Nat.{ℕ, ◌+◌, ◌≤◌}
 use native.Mathlib.Omega.{arith}
-use mathlib.Core.List.{List, [], ◌∷◌, ◌++◌}
+use mathlib.Core.List.{List, [], ◌∷◌}
 use mathlib.Core.Option.{Option, none, some}
-use mathlib.Core.Path.{◌≡◌, refl, ap, sym, subst, ◌∙◌}
+use mathlib.Core.Path.{◌≡◌, refl, ap, sym, subst, subst⁻¹, ◌∙◌}
 use mathlib.Core.Logic.{inl, inr}
-use lib.ListN.{length, take, drop}
+use lib.ListN.{length}
+use Rattle.std.specs.Prelude.{Err, Ok}
 use Rattle.laws.specs.Bytes.{Bytes}
 use Rattle.profile.specs.Limits.{most_bytes}
 use Rattle.profile.specs.Refusals.{Fault}
@@ -28,23 +29,20 @@ use Rattle.tree.specs.Pain008.{document, declaration}
 use Rattle.message.specs.declared.Told.{Told}
 use Rattle.message.specs.Message.{tell, told, batches_of}
 use Rattle.message.specs.Verdict.{Room, accepted, verdict, first, stages, totals_of, verdict_of}
+use Rattle.heard.specs.declared.Heard.{Heard}
 use Rattle.heard.specs.State.{State, fresh, step}
 use Rattle.heard.specs.Row.{Row, state_of}
 use Rattle.heard.specs.Bounds.{Within}
 use Rattle.heard.proofs.Fold.{fold}
-use Rattle.heard.proofs.Bounds.{within_more}
+use Rattle.heard.proofs.Bounds.{within-fresh, within_more}
 use Rattle.heard.proofs.Right.{slips-right, rows_right}
 use Rattle.events.specs.Events.{Finished}
-use Rattle.answer.specs.declared.Checked.{Checked}
-use Rattle.answer.specs.declared.Checked.TheVariants.{Accepted, Refused}
-use Rattle.answer.specs.Said.{said}
+use Rattle.answer.specs.Said.{Checked, said}
 use Rattle.answer.specs.Answer.{answer}
 use Rattle.answer.proofs.Right.{totals-small, verdict-right}
-use Rattle.reader.specs.declared.Outcome.{Outcome}
-use Rattle.reader.specs.declared.Outcome.TheVariants.{TooLong as LongOne, Stuck as StuckAt, Read as WasRead}
 use Rattle.reader.specs.Told.{step_of}
 use Rattle.reader.specs.Walk as walk
-use Rattle.reader.specs.Read.{ReadRight, Bounded}
+use Rattle.reader.specs.Read.{ReadRight, Bounded, Outcome}
 use Rattle.promise.specs.Check.{said_by, room_of, Checks}
 use Rattle.promise.specs.Demand2.{Enough}
 use Rattle.checking.specs.Inner.{Verdicts, Fills}
@@ -56,26 +54,37 @@ unfolding step_of
 events-said s st [] = refl
 events-said s st (e ∷ es) = events-said s (step st (told s e)) es
 
--- what reading promises of a message s, with the numbers and the tally that it began with, the answer that it gave, and what was then in what it was lent
-module _ (s : Bytes) (slips rows a b : List ℕ) (ns₀ ns : List ℕ) (y₀ : Tally) (o : Outcome)
-    (g : (sl rw : List ℕ) → state_of ns₀ fresh_tally sl rw ≡ fresh sl rw) (f : y₀ ≡ fresh_tally)
-    (h : ReadRight document s (state_of ns₀ y₀ slips rows) o ns a b) where
-  begun : state_of ns₀ y₀ slips rows ≡ fresh slips rows
-  begun = ap (λ (y : Tally). state_of ns₀ y slips rows) f ∙ g slips rows
+-- what reading promised of a message s, where nothing was heard before: the answer, and what was then in what it was lent
+pub record Walked (s : Bytes) (slips rows a b : List ℕ) (hd : Heard) (o : Outcome) : Type 0 where
+  pub right : ReadRight document s (fresh slips rows) o hd a b
+  pub within : Bounded (length s) o hd
 
-  seen : (x : Outcome) → o ≡ x → ReadRight document s (fresh slips rows) x ns a b
-  seen x e = subst (λ (z : Outcome). ReadRight document s (fresh slips rows) z ns a b) e (subst (λ (st : State). ReadRight document s st o ns a b) begun h)
+-- what was heard and the tally at the beginning
+module _ (hd₀ : Heard) (y₀ : Tally) (g : (sl rw : List ℕ) → state_of hd₀ fresh_tally sl rw ≡ fresh sl rw) (f : y₀ ≡ fresh_tally) where
+  begun : (slips rows : List ℕ) → state_of hd₀ y₀ slips rows ≡ fresh slips rows
+  begun slips rows = ap (λ (y : Tally). state_of hd₀ y slips rows) f ∙ g slips rows
+
+  pub within-begun : Within 0 (state_of hd₀ y₀ [] [])
+  within-begun = subst⁻¹ (Within 0) (begun [] []) (within-fresh [] [])
+
+  pub walked : {s : Bytes} {slips rows a b : List ℕ} {hd : Heard} {o : Outcome} → ReadRight document s (state_of hd₀ y₀ slips rows) o hd a b → Bounded (length s) o hd
+      → Walked s slips rows a b hd o
+  walked {s} {slips} {rows} {a} {b} {hd} {o} h w = record { right = subst (λ (st : State). ReadRight document s st o hd a b) (begun slips rows) h; within = w }
+
+module _ {s : Bytes} {slips rows a b : List ℕ} {hd : Heard} {o : Outcome} (h : Walked s slips rows a b hd o) where
+  seen : (x : Outcome) → o ≡ x → ReadRight document s (fresh slips rows) x hd a b
+  seen x e = subst (λ (z : Outcome). ReadRight document s (fresh slips rows) z hd a b) e h.right
 
   record Read (y : Tally) : Type 0 where
     pub short : length s ≤ most_bytes
     pub read : Message document
     pub bytes : message declaration read ≡ s
-    pub ends : state_of ns y a b ≡ fold step (fresh slips rows) (said_by read)
+    pub ends : state_of hd y a b ≡ fold step (fresh slips rows) (said_by read)
 
-  was_read : (y : Tally) → o ≡ WasRead y → Read y
+  was_read : (y : Tally) → o ≡ Ok y → Read y
   unfolding ReadRight
   was_read y e =
-      let q = seen (WasRead y) e in
+      let q = seen (Ok y) e in
       let m : Message document = q.1.0 in
       record {
         short = q.0;
@@ -84,32 +93,28 @@ module _ (s : Bytes) (slips rows a b : List ℕ) (ns₀ ns : List ℕ) (y₀ : T
         ends = sym q.1.2 ∙ events-said s (fresh slips rows) (message_events declaration m) ∙ ap (λ (x : Bytes). fold step (fresh slips rows) (tell x (message_events declaration m))) (sym q.1.1);
       }
 
-  pub small : (y : Tally) → o ≡ WasRead y → Bounded (length s) o ns → Within most_bytes (state_of ns y [] [])
-  small y e w = within_more (subst (λ (z : Outcome). Bounded (length s) z ns) e w) (was_read y e).short
+  pub small : (y : Tally) → o ≡ Ok y → Within most_bytes (state_of hd y [] [])
+  small y e = within_more (subst (λ (z : Outcome). Bounded (length s) z hd) e h.within) (was_read y e).short
 
   -- the totals after the last event
-  pub totals-fit : (y : Tally) → o ≡ WasRead y → Bounded (length s) o ns → (w : Row) (z : Totals) (a' b' : List ℕ) → Finished (state_of ns y a b) w z a' b'
+  pub totals-fit : (y : Tally) → o ≡ Ok y → (w : Row) (z : Totals) (a' b' : List ℕ) → Finished (state_of hd y a b) w z a' b'
       → (z.transactions.0 ≤ most_bytes + 1) × (z.batches ≤ most_bytes + 1)
-  totals-fit y e v w z a' b' q = totals-small most_bytes (state_of ns y [] []) z (small y e v) q.totals
+  totals-fit y e w z a' b' q = totals-small most_bytes (state_of hd y [] []) z (small y e) q.totals
 
-  pub verdict-long : (room : Room) → o ≡ LongOne → Verdicts s room (Refused TooLong)
+  pub verdict-refused : (room : Room) (f : Refusal) → o ≡ Err f → Verdicts s room (Err f)
   unfolding ReadRight Verdicts
-  verdict-long room e = inl (seen LongOne e, refl)
+  verdict-refused room TooLong e = inl (seen (Err TooLong) e, refl)
+  verdict-refused room (NotOfTheForm n) e = let y = seen (Err (NotOfTheForm n)) e in inr (inl (y.0, (n, (y.1, refl))))
+  verdict-refused room f e = absurd (seen (Err f) e)
 
-  pub verdict-stuck : (room : Room) (n : ℕ) → o ≡ StuckAt n → Verdicts s room (Refused (NotOfTheForm n))
-  unfolding ReadRight Verdicts
-  verdict-stuck room n e = let y = seen (StuckAt n) e in inr (inl (y.0, (n, (y.1, refl))))
-
-  pub filled-long : (a' b' : List ℕ) → o ≡ LongOne → Fills s slips rows a' b'
+  pub filled-refused : (a' b' : List ℕ) (f : Refusal) → o ≡ Err f → Fills s slips rows a' b'
   unfolding ReadRight Fills
-  filled-long a' b' e l m y n = absurd (omega (arith, seen LongOne e, l))
-
-  pub filled-stuck : (a' b' : List ℕ) (p : ℕ) → o ≡ StuckAt p → Fills s slips rows a' b'
-  unfolding ReadRight Fills
-  filled-stuck a' b' p e l m y n = absurd ((seen (StuckAt p) e).1.0 (m, y))
+  filled-refused a' b' TooLong e l m y n = absurd (omega (arith, seen (Err TooLong) e, l))
+  filled-refused a' b' (NotOfTheForm p) e l m y n = absurd ((seen (Err (NotOfTheForm p)) e).1.0 (m, y))
+  filled-refused a' b' f e l m y n = absurd (seen (Err f) e)
 
   -- after the last event
-  module _ (y : Tally) (e : o ≡ WasRead y) (w : Row) (z : Totals) (a' b' : List ℕ) (q : Finished (state_of ns y a b) w z a' b') where
+  module _ (y : Tally) (e : o ≡ Ok y) (w : Row) (z : Totals) (a' b' : List ℕ) (q : Finished (state_of hd y a b) w z a' b') where
     ended : Finished (fold step (fresh slips rows) (said_by (was_read y e).read)) w z a' b'
     ended = subst (λ (st : State). Finished st w z a' b') (was_read y e).ends q
 
@@ -129,32 +134,24 @@ module _ (s : Bytes) (slips rows a b : List ℕ) (ns₀ ns : List ℕ) (y₀ : T
         (d.slips ∙ slips-right slips rows (said_by m) n.slips, d.rows ∙ rows_right slips rows (said_by m) n.rows)
 
 module _ (s : Bytes) (slips rows a b : List ℕ) where
-  pub check_refused : (f : Refusal) → Verdicts s (room_of slips rows) (Refused f) → a ≡ slips → b ≡ rows → Checks s slips rows (said (Refused f)) a b
+  pub check_refused : (f : Refusal) → Verdicts s (room_of slips rows) (Err f) → a ≡ slips → b ≡ rows → Checks s slips rows (said (Err f)) a b
   unfolding Verdicts
   check_refused f (inl (h, e)) p q = record { case = inl (record { long = h; answer = e; slips-kept = p; rows-kept = q }) }
   check_refused f (inr (inl (h, (n, (x, e))))) p q =
       record { case = inr (inl (record { short = h; place = n; not_of_form = x; answer = e; slips-kept = p; rows-kept = q })) }
   check_refused f (inr (inr (h, (m, (e, v))))) p q = record { case = inr (inr (record { short = h; read = m; bytes = e; answer = v; slips_are = p; rows_are = q })) }
 
--- a table of which nothing was lent
-pub lent_none : (l ys : List ℕ) → length ys ≡ 0 → take 0 l ++ (ys ++ drop (0 - 0) (drop 0 l)) ≡ l
-lent_none l [] h = refl
-lent_none l (x ∷ ys) h = absurd (omega (arith, h))
-
-pub filled_lent : (s : Bytes) (slips rows slips₁ rows₁ a b : List ℕ) → slips₁ ≡ slips → rows₁ ≡ rows → Fills s slips₁ rows₁ a b → Fills s slips rows a b
-filled_lent s slips rows slips₁ rows₁ a b e f h = subst (λ (x : List ℕ). Fills s x rows a b) e (subst (λ (x : List ℕ). Fills s slips₁ x a b) f h)
-
 verdict-totals : (o : Option Fault) (y z : Totals) → verdict o y ≡ accepted z → z ≡ y
 verdict-totals none y z e = cc
 verdict-totals (some f) y z e = absurd (let z : ◌≡◌ {A = ℕ} 0 1 = cc in omega arith)
 
-module _ (s : Bytes) (room : Room) (t : Totals) (v : Verdicts s room (Accepted t)) where
+module _ (s : Bytes) (room : Room) (t : Totals) (v : Verdicts s room (Ok t)) where
   -- an accepted message is read; its totals are the exact ones, and the tables have room for it
   record Passed : Type 0 where
     pub short : length s ≤ most_bytes
     pub read : Message document
     pub bytes : message declaration read ≡ s
-    pub answer : said (Accepted t) ≡ verdict_of room (said_by read)
+    pub answer : said (Ok t) ≡ verdict_of room (said_by read)
     pub totals : t ≡ totals_of (batches_of (said_by read))
     pub enough : Enough room (said_by read)
 
@@ -162,14 +159,14 @@ module _ (s : Bytes) (room : Room) (t : Totals) (v : Verdicts s room (Accepted t
   unfolding Verdicts
   passed = go v
     where
-      go : Verdicts s room (Accepted t) → Passed
+      go : Verdicts s room (Ok t) → Passed
       go (inl (h, e)) = absurd (let z : ◌≡◌ {A = ℕ} 0 1 = cc in omega arith)
       go (inr (inl (h, (n, (x, e))))) = absurd (let z : ◌≡◌ {A = ℕ} 0 1 = cc in omega arith)
       go (inr (inr (h, (m, (e, v))))) =
           record { short = h; read = m; bytes = e; answer = v; totals = verdict-totals (first (stages room (said_by m))) (totals_of (batches_of (said_by m))) t (sym v); enough = (accepted-only room (said_by m) t (sym v)).1.1 }
 
-module _ (s : Bytes) (slips rows slips' rows' : List ℕ) (t : Totals) (v : Verdicts s (room_of slips rows) (Accepted t)) where
-  pub check_accepted : Fills s slips rows slips' rows' → Checks s slips rows (said (Accepted t)) slips' rows'
+module _ (s : Bytes) (slips rows slips' rows' : List ℕ) (t : Totals) (v : Verdicts s (room_of slips rows) (Ok t)) where
+  pub check_accepted : Fills s slips rows slips' rows' → Checks s slips rows (said (Ok t)) slips' rows'
   unfolding Fills
   check_accepted f =
       let y = passed s (room_of slips rows) t v in

@@ -4,11 +4,11 @@
 use Prim.Native.Nat.{ℕ}
 use mathlib.Core.List.{map}
 use mathlib.Core.Path.{◌≡◌}
+use Rattle.std.specs.Prelude.{Ok}
 use Rattle.laws.specs.Bytes.{Bytes}
 use Rattle.bundle.specs.Bundle.{bundle, need}
 use Rattle.bundle.specs.Labels.{need_of, labels_of, pick, up_to}
 use Rattle.bundle.proofs.Codes.{need_by_number as by_number, batches_by_number}
-use Rattle.daylist.specs.declared.JudgedList.TheVariants.{Good}
 use Rattle.daylist.specs.Stages.{judged_list}
 use Rattle.daylist.proofs.Goods.{good-list}
 use Rattle.collections.specs.Listed.{Collection, same_terms, listed}
@@ -17,7 +17,7 @@ use Rattle.collections.specs.Good.{GoodTerms}
 use Rattle.collections.proofs.Terms.{terms_decide, same_number}
 use Rattle.collections.proofs.Goods.{good-terms}
 
-module _ (s : Bytes) (c n : ℕ) (e : judged_list s c ≡ Good n) where
+module _ (s : Bytes) (c n : ℕ) (e : judged_list s c ≡ Ok n) where
   pub need_by_number : need_of c (numbers_of s) ≡ need (λ x. x.terms) same_terms c (listed s)
   need_by_number = by_number (λ (x : Collection). x.terms) same_terms terms_decide (λ x. GoodTerms x.terms) (λ x. terms_number x.terms)
       (λ x y. same_number x.terms y.terms) c (listed s) (good-list s c n e).least (good-terms s c n e)

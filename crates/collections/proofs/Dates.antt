@@ -10,13 +10,13 @@ use mathlib.Core.Path.{◌≡◌, refl, ap₂, sym, ◌∙◌}
 use lib.Dec.{T, eqb→eq}
 use lib.ListN.{length, take, drop, length-take, length-drop, take-append-drop, drop_of_length-le}
 use lib.Seq.{drop-drop}
+use Rattle.std.specs.Prelude.{Ok}
 use Rattle.laws.specs.Bytes.{Bytes, ascii, all}
 use Rattle.laws.proofs.Tests.{bool_cases, and_l, and_r, T_true, true-T}
 use Rattle.laws.proofs.Loops.{agree-length, agree-take, agree-drop}
 use Rattle.marks.specs.Marks.{digit, mark, fits, value, value_from}
 use Rattle.marks.proofs.Classes.{between_low, between_high}
 use Rattle.profile.specs.declared.Flaw.TheVariants.{Date}
-use Rattle.text.specs.declared.Judged.TheVariants.{Good}
 use Rattle.text.specs.Rules.{must, good, number_told, value_at, real_day, dated, date}
 use Rattle.text.proofs.Days.{digits_at, part-there, part-under}
 
@@ -96,14 +96,14 @@ module _ (s : Bytes) (t : T (dated s)) where
   tells = rw (T_true (dated s) t)
 
 pub date-under : (s : Bytes) → number_told (date s) < 10 ^ 8
-date-under s = bool_cases (λ z. number_told (must z Date (Good (value_at 0 4 s * 10_000 + value_at 5 2 s * 100 + value_at 8 2 s))) < 10 ^ 8) (dated s) inside (λ t. omega arith)
+date-under s = bool_cases (λ z. number_told (must z Date (Ok (value_at 0 4 s * 10_000 + value_at 5 2 s * 100 + value_at 8 2 s))) < 10 ^ 8) (dated s) inside (λ t. omega arith)
   where
     inside : T (dated s) → value_at 0 4 s * 10_000 + value_at 5 2 s * 100 + value_at 8 2 s < 10 ^ 8
     inside t = omega (arith, part-under 0 4 shape s tt (shaped s t), part-under 5 2 shape s tt (shaped s t), part-under 8 2 shape s tt (shaped s t))
 
 -- only a real day is good
 good-dated : (s : Bytes) → T (good (date s)) → T (dated s)
-good-dated s = bool_cases (λ z. T (good (must z Date (Good (value_at 0 4 s * 10_000 + value_at 5 2 s * 100 + value_at 8 2 s)))) → T z) (dated s) (λ t g. tt) (λ t g. g)
+good-dated s = bool_cases (λ z. T (good (must z Date (Ok (value_at 0 4 s * 10_000 + value_at 5 2 s * 100 + value_at 8 2 s)))) → T z) (dated s) (λ t g. tt) (λ t g. g)
 
 pub date-same : (s t : Bytes) → T (good (date s)) → T (good (date t)) → number_told (date s) ≡ number_told (date t) → s ≡ t
 date-same s t f g e =

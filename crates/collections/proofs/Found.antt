@@ -9,6 +9,7 @@ use mathlib.Core.List.{List, [], ◌∷◌}
 use mathlib.Core.Path.{◌≡◌, refl, ap, sym, ◌∙◌}
 use lib.Dec.{eqb}
 use lib.ListN.{length, get_or}
+use Rattle.std.specs.Prelude.{Ok}
 use Rattle.laws.specs.Bytes.{Bytes}
 use Rattle.laws.specs.Lists.{count}
 use Rattle.frames.specs.Lines.{Line, lines, starts_from, starts, line_from}
@@ -18,7 +19,6 @@ use Rattle.frames.proofs.Cuts.{by_further}
 use Rattle.frames.proofs.Starts.{line_at, start-within}
 use Rattle.bundle.specs.Labels.{need_of, labels_of}
 use Rattle.bundle.proofs.Codes.{all-at, label_used}
-use Rattle.daylist.specs.declared.JudgedList.TheVariants.{Good}
 use Rattle.daylist.specs.Stages.{judged_list}
 use Rattle.daylist.proofs.Goods.{GoodList, good-list, frames-each}
 use Rattle.collections.specs.Listed.{Collection, same_terms, collection_of, creditor_of, first_line, creditor, listed}
@@ -28,7 +28,7 @@ use Rattle.collections.proofs.Terms.{terms_decide, same_number}
 use Rattle.collections.proofs.Lines.{none, collection_at_lem}
 use Rattle.collections.proofs.Goods.{framed-line, good-collections, good-number, good-terms}
 
-module _ (s : Bytes) (c n : ℕ) (e : judged_list s c ≡ Good n) where
+module _ (s : Bytes) (c n : ℕ) (e : judged_list s c ≡ Ok n) where
   list : GoodList s c n
   list = good-list s c n e
 

@@ -7,8 +7,7 @@
 use Rattle.std.specs.Prelude.{◌≤◌, Bool, true, [], ◌∷◌, T}
 use Rattle.laws.specs.Bytes.{Bytes}
 use Rattle.profile.specs.Limits.{most_cents}
-use Rattle.text.specs.declared.Judged.{Judged}
-use Rattle.text.specs.Rules.{good, identifier, name, remittance, date as day, time, iban, bic, creditor_identifier}
+use Rattle.text.specs.Rules.{Judged, good, identifier, name, remittance, date as day, time, iban, bic, creditor_identifier}
 use Rattle.collections.specs.Listed.{Terms, Collection, Creditor}
 
 abbrev pub empty_or : (Bytes → Judged) → Bytes → Bool

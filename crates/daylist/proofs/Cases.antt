@@ -14,12 +14,11 @@ use mathlib.Core.List.{List, [], ◌∷◌, ◌++◌, map}
 use mathlib.Core.Path.{◌≡◌, refl}
 use lib.ListN.{length, get_or, set, replicate}
 use borrow.Author.Tests.{le-leb, lt-leb}
+use Rattle.std.specs.Prelude.{Err, Ok}
 use Rattle.laws.specs.Bytes.{Bytes, ascii}
 use Rattle.laws.specs.Lists.{concat, gather}
 use Rattle.profile.specs.Refusals.{Fault, fault, list_fault_of}
-use Rattle.daylist.specs.declared.JudgedList.{JudgedList}
-use Rattle.daylist.specs.declared.JudgedList.TheVariants.{Good, Refused}
-use Rattle.daylist.specs.Stages.{judged_list}
+use Rattle.daylist.specs.Stages.{JudgedList, judged_list}
 
 -- ─── the list of the examples ───
 
@@ -68,8 +67,8 @@ in_words = (refl, refl, refl)
 -- ─── what is reported ───
 
 abbrev told : JudgedList → Fault
-told (Good n) = fault 0 n
-told (Refused r) = list_fault_of r
+told (Ok n) = fault 0 n
+told (Err r) = list_fault_of r
 
 -- a value: its number, its line and its field
 abbrev value : ℕ → ℕ → ℕ → Fault

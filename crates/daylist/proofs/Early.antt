@@ -8,6 +8,7 @@ use mathlib.Core.List.{List, [], ◌∷◌}
 use mathlib.Core.Logic.{inl, inr}
 use lib.Dec.{leb}
 use lib.ListN.{length}
+use Rattle.std.specs.Prelude.{Err, Ok}
 use Rattle.laws.specs.Bytes.{Bytes, between}
 use Rattle.profile.specs.Limits.{most_bytes, most_ceiling, most_collections}
 use Rattle.profile.specs.Refusals.{list_number_of}
@@ -18,16 +19,12 @@ use Rattle.profile.specs.declared.ListRefusal.TheVariants.{TooLong, Ceiling, Not
 use Rattle.frames.specs.Lines.{Line, lines}
 use Rattle.frames.specs.Hex.{unhex}
 use Rattle.frames.specs.Frames.{frame_of, is_frame}
-use Rattle.daylist.specs.declared.JudgedLine.{JudgedLine}
-use Rattle.daylist.specs.declared.JudgedLine.TheVariants.{Good as Fine, Bad}
-use Rattle.daylist.specs.declared.JudgedList.{JudgedList}
-use Rattle.daylist.specs.declared.JudgedList.TheVariants.{Good, Refused}
-use Rattle.daylist.specs.Values.{judged_line}
-use Rattle.daylist.specs.Stages.{must, next, frames_from, of_line, values_from, collections_of, judged_lines, judged_list}
+use Rattle.daylist.specs.Values.{JudgedLine, judged_line}
+use Rattle.daylist.specs.Stages.{JudgedList, must, next, frames_from, of_line, values_from, collections_of, judged_lines, judged_list}
 
 abbrev pub Early : JudgedList → Type 0
-Early (Good n) = Unit {0}
-Early (Refused r) = JudgedNumber (list_number_of r)
+Early (Ok n) = Unit {0}
+Early (Err r) = JudgedNumber (list_number_of r)
 
 -- the refusals before the values are 21 to 25
 must-early : (b : Bool) (r : ListRefusal) (j : JudgedList) → Between 21 25 (list_number_of r) → Early j → Early (must b r j)
@@ -35,16 +32,16 @@ must-early true r j h e = e
 must-early false r j h e = inl h
 
 next-early : (i j : JudgedList) → Early i → Early j → Early (next i j)
-next-early (Good n) j a b = b
-next-early (Refused r) j a b = a
+next-early (Ok n) j a b = b
+next-early (Err r) j a b = a
 
 frames-early : (k : ℕ) (ls : List Line) → Early (frames_from k ls)
 frames-early k [] = tt
 frames-early k (l ∷ ls) = must-early (is_frame (frame_of (k + 1)) l) (NotAFrame (k + 1)) (frames_from (k + 1) ls) (omega arith, omega arith) (frames-early (k + 1) ls)
 
 of-early : (x : JudgedLine) (k : ℕ) (j : JudgedList) → Early j → Early (of_line x k j)
-of-early Fine k j e = e
-of-early (Bad f i) k j e = inr (flaw-number f)
+of-early (Ok u) k j e = e
+of-early (Err b) k j e = inr (flaw-number b.flaw)
 
 values-early : (k : ℕ) (ls : List Line) → Early (values_from k ls)
 values-early k [] = tt
@@ -57,8 +54,8 @@ collections-early n j e =
 
 lines-early : (ls : List Line) → Early (judged_lines ls)
 lines-early ls =
-    let values : JudgedList = next (values_from 0 ls) (Good _) in
-    next-early (frames_from 0 ls) (collections_of (length ls) values) (frames-early 0 ls) (collections-early (length ls) values (next-early (values_from 0 ls) (Good _) (values-early 0 ls) tt))
+    let values : JudgedList = next (values_from 0 ls) (Ok _) in
+    next-early (frames_from 0 ls) (collections_of (length ls) values) (frames-early 0 ls) (collections-early (length ls) values (next-early (values_from 0 ls) (Ok _) (values-early 0 ls) tt))
 
 pub list-early : (s : Bytes) (c : ℕ) → Early (judged_list s c)
 list-early s c =

@@ -1,7 +1,7 @@
 -- A NUMBER READ HIGH BYTE FIRST: v is what was read before the place `at`, and the bytes before the place `end` count.
 --   take-there, drop-there   of the bytes that are asked for, those that are there; the bytes after them
 --   high_start           the bytes that count, where fewer may be there than are asked for
---   high_go, high_end    one byte more is taken; none is left
+--   high_go              one byte more is taken
 --   high_more, high_under   with one byte more it stays below its power of 256, and so below each later power
 use Prim.Native.Nat.{ℕ, suc, ◌+◌, ◌-◌, ◌*◌, ◌^◌, ◌<◌, ◌≤◌, min}
 use native.Mathlib.Nat.{pow-suc, pow-le-pow_right}
@@ -39,9 +39,6 @@ module _ (v : ℕ) (s : Bytes) (at end : ℕ) where
   high_go h k =
       let e : end - at ≡ suc (end - (at + 1)) = omega arith in
       rw (drop-step s at (omega arith), e)
-
-  pub high_end : end ≤ at → high_first_from v (take (end - at) (drop at s)) ≡ v
-  high_end h = let e : end - at ≡ 0 = omega arith in rw e
 
 module _ (v i : ℕ) (u : v < 256 ^ i) where
   pub high_more : (b : ℕ) → b < 256 → v * 256 + b < 256 ^ (i + 1)

@@ -8,53 +8,36 @@
 ghost use Rattle.std.specs.Prelude.{◌≡◌};
 ghost use Rattle.daylist.specs.Stages.{judged_list};
 
-use profile::ListRefusal;
+use profile::{ListRefusal, Profile};
 
 pub mod lines;
 pub mod stages;
 pub mod values;
 
-// What a line is judged: good, or the flaw of its first field that breaks its rule, and the number of that field, from 1.
+// The first field of a line that breaks its rule: its flaw, and its number, from 1.
 #[derive(Clone, Copy)]
-pub enum JudgedLine {
-    Good,
-    Bad(profile::Flaw, usize),
-}
-
-// What a list is judged: good, with the number of its collections, or refused.
-#[derive(Clone, Copy)]
-pub enum JudgedList {
-    Good(usize),
-    Refused(profile::ListRefusal),
+pub struct BadField {
+    pub flaw: profile::Flaw,
+    pub field: usize,
 }
 
 // The list judged, its stages in order: refused with the first of them that finds a fault, or good, with the number of its collections.
-pub fn judge_list(list: &[u8], ceiling: u64) -> JudgedList
+pub fn judge_list(list: &[u8], ceiling: u64) -> Result<usize, ListRefusal>
     ensures { result ≡ judged_list list.now ceiling }
 {
-    if profile::Profile::BYTES < list.len() {
-        return JudgedList::Refused(ListRefusal::TooLong);
+    if Profile::BYTES < list.len() {
+        return Err(ListRefusal::TooLong);
     }
-    if ceiling < 1 {
-        return JudgedList::Refused(ListRefusal::Ceiling);
+    if !(1..=Profile::CEILING).contains(&ceiling) {
+        return Err(ListRefusal::Ceiling);
     }
-    if profile::Profile::CEILING < ceiling {
-        return JudgedList::Refused(ListRefusal::Ceiling);
+    let lines = stages::judge_frames(list)?;
+    if lines < 2 {
+        return Err(ListRefusal::NoCollection(lines));
     }
-    match stages::judge_frames(list) {
-        JudgedList::Good(lines) => {
-            if lines < 2 {
-                return JudgedList::Refused(ListRefusal::NoCollection(lines));
-            }
-            if profile::Profile::LINES < lines {
-                return JudgedList::Refused(ListRefusal::TooManyCollections);
-            }
-            if let JudgedList::Refused(refusal) = stages::judge_values(list) {
-                return JudgedList::Refused(refusal);
-            }
-            let collections = lines - 1;
-            JudgedList::Good(collections)
-        }
-        JudgedList::Refused(refusal) => JudgedList::Refused(refusal),
+    if Profile::LINES < lines {
+        return Err(ListRefusal::TooManyCollections);
     }
+    stages::judge_values(list)?;
+    Ok(lines - 1)
 }

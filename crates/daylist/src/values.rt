@@ -1,199 +1,134 @@
 // The values of a line, field by field.
-ghost use Rattle.std.specs.Prelude.{◌≡◌, ◌+◌, ◌≤◌, ◌<◌, length, take, drop, get_or};
+ghost use Rattle.std.specs.Prelude.{◌≡◌, ◌+◌, ◌≤◌, length, take, drop, Ok, cond};
 ghost use Rattle.frames.specs.Hex.{unhex};
+ghost use Rattle.frames.specs.Fields.{judged_field};
+ghost use Rattle.frames.specs.Frames.{collection_frame, lead_of, texts};
 ghost use Rattle.daylist.specs.Lead.{high_first};
-ghost use Rattle.frames.specs.Fields.{by_line, needed, optional, creditor_fields, collection_fields, fields_of, judged_field};
-ghost use Rattle.frames.specs.Frames.{frame_of, lead_of, texts};
-ghost use Rattle.daylist.specs.Values.{judged_lead, judged_texts, first_bad, judged_line};
-ghost use Rattle.text.specs.declared.Rule.TheVariants.{Identifier, Remittance, CreditorIdentifier};
+ghost use Rattle.daylist.specs.Values.{bad, collection_lead, judged_texts, first_bad, judged_line};
 
-use crate::JudgedLine;
+use crate::BadField;
 use frames::{Field, hex};
-use profile::Flaw;
-use text::{Judged, Rule};
+use profile::{Flaw, Profile};
+use text::Rule;
 
 // ─── the fields before the texts ───
 
-// How many fields of line `number` stand before its texts.
-fn lead_fields(number: usize) -> usize
-    ensures { result ≡ by_line number 0 3 }
-{
-    if number == 1 {
-        return 0;
-    }
-    3
-}
-
 // The number that the `count` bytes from `from` on are, high first.
+// By place and no `from_be_bytes`: the bytes stand as two digits each, and there may be fewer than asked for.
 pub fn high_first(line: &[u8], from: usize, count: usize) -> u64
     requires { (from ≤ 255) × (count ≤ 7) }
     ensures { result ≡ high_first (take count (drop from (unhex line.now))) }
 {
-    let end = frames::least(from + count, line.len() / 2);
-    let mut v: u64 = 0;
-    let mut at = from;
-    while at < end {
-        v = v * 256 + marks::wide(hex::byte_at(line, at));
-        at += 1;
+    let end = (from + count).min(line.len() / 2);
+    let mut v = 0;
+    for at in from..end {
+        v = v * 256 + u64::from(hex::byte_at(line, at));
     }
     v
 }
 
-// Scheme 0 or 1, sequence 0 to 3, cents 1 to 99,999,999,999. A creditor line has no such fields.
-fn judge_lead(line: &[u8], number: usize) -> JudgedLine
-    ensures { result ≡ first_bad 0 (judged_lead number (lead_of (frame_of number) (unhex line.now))) }
+// The field of this number has this flaw where the test fails.
+fn must(holds: bool, flaw: Flaw, field: usize) -> Result<(), BadField>
+    ensures { result ≡ cond holds (Ok tt) (bad flaw field) }
 {
-    if number == 1 {
-        return JudgedLine::Good;
+    if holds {
+        Ok(())
+    } else {
+        Err(BadField { flaw, field })
     }
-    if 1 < hex::byte_at(line, 1) {
-        return JudgedLine::Bad(Flaw::Code, 1);
-    }
-    if 3 < hex::byte_at(line, 2) {
-        return JudgedLine::Bad(Flaw::Code, 2);
-    }
+}
+
+// Of a collection: scheme 0 or 1, sequence 0 to 3, cents 1 to 99,999,999,999.
+fn judge_lead(line: &[u8]) -> Result<(), BadField>
+    ensures { result ≡ first_bad 0 (collection_lead (lead_of collection_frame (unhex line.now))) }
+{
+    must(hex::byte_at(line, 1) <= 1, Flaw::Code, 1)?;
+    must(hex::byte_at(line, 2) <= 3, Flaw::Code, 2)?;
     let cents = high_first(line, 3, 5);
-    if cents < 1 {
-        return JudgedLine::Bad(Flaw::Number, 3);
-    }
-    if profile::Profile::CENTS < cents {
-        return JudgedLine::Bad(Flaw::Number, 3);
-    }
-    JudgedLine::Good
+    must((1..=Profile::CENTS).contains(&cents), Flaw::Number, 3)
 }
 
 // ─── the texts ───
 
-// A field of which length 0 breaks the rule.
-fn needed(rule: Rule) -> Field
-    ensures { result ≡ needed rule }
-{
-    Field {
-        rule,
-        may_be_empty: false,
-    }
-}
-
-// A field of which length 0 is good.
-fn optional(rule: Rule) -> Field
-    ensures { result ≡ optional rule }
-{
-    Field {
-        rule,
-        may_be_empty: true,
-    }
-}
-
-// The text fields of a creditor line, counted from 0: message id, creation time, initiating name, creditor name, IBAN, BIC, creditor identifier.
-fn creditor_field(i: usize) -> Field
-    ensures { result ≡ get_or creditor_fields i (needed CreditorIdentifier) }
-{
-    match i {
-        0 => needed(Rule::Identifier),
-        1 => needed(Rule::Time),
-        2 => needed(Rule::Name),
-        3 => needed(Rule::Name),
-        4 => needed(Rule::Iban),
-        5 => optional(Rule::Bic),
-        _ => needed(Rule::CreditorIdentifier),
-    }
-}
+// The text fields of a creditor line: message id, creation time, initiating name, creditor name, IBAN, BIC, creditor identifier.
+const CREDITOR: [Field; 7] = [
+    Field::Needed(Rule::Identifier),
+    Field::Needed(Rule::Time),
+    Field::Needed(Rule::Name),
+    Field::Needed(Rule::Name),
+    Field::Needed(Rule::Iban),
+    Field::Optional(Rule::Bic),
+    Field::Needed(Rule::CreditorIdentifier),
+];
 
 // Those of a collection: collection date, end-to-end id, mandate id, signature date, BIC, debtor name, IBAN, remittance.
-fn collection_field(i: usize) -> Field
-    ensures { result ≡ get_or collection_fields i (optional Remittance) }
-{
-    match i {
-        0 => needed(Rule::Date),
-        1 => needed(Rule::Identifier),
-        2 => needed(Rule::Identifier),
-        3 => needed(Rule::Date),
-        4 => optional(Rule::Bic),
-        5 => needed(Rule::Name),
-        6 => needed(Rule::Iban),
-        _ => optional(Rule::Remittance),
-    }
-}
+const COLLECTION: [Field; 8] = [
+    Field::Needed(Rule::Date),
+    Field::Needed(Rule::Identifier),
+    Field::Needed(Rule::Identifier),
+    Field::Needed(Rule::Date),
+    Field::Optional(Rule::Bic),
+    Field::Needed(Rule::Name),
+    Field::Needed(Rule::Iban),
+    Field::Optional(Rule::Remittance),
+];
 
 // A text judged as a field.
-fn judge_field(field: Field, text: &[u8]) -> Judged
+fn judge_field(field: Field, text: &[u8]) -> Result<u64, Flaw>
     ensures { result ≡ judged_field field text.now }
 {
-    let rule = field.rule;
-    if text.len() == 0 {
-        if field.may_be_empty {
-            return Judged::Good(0);
-        }
+    match field {
+        Field::Optional(_) if text.is_empty() => Ok(0),
+        Field::Needed(rule) | Field::Optional(rule) => text::judge(rule, text),
     }
-    text::judge(rule, text)
-}
-
-// As many bytes from a place on as the buffer has, judged as a field once they are in the buffer.
-fn judge_in(line: &[u8], place: usize, field: Field, buffer: &mut [u8]) -> Judged
-    requires { place + length buffer.old ≤ length (unhex line.now) }
-    ensures { result ≡ judged_field field (take (length buffer.old) (drop place (unhex line.now))) }
-{
-    hex::bytes_from(line, place, buffer);
-    judge_field(field, buffer)
 }
 
 // The `size` bytes from a place on, judged as a field. A length byte is at most 255.
-pub fn judge_part(line: &[u8], place: usize, size: usize, field: Field) -> Judged
+pub fn judge_part(line: &[u8], place: usize, size: usize, field: Field) -> Result<u64, Flaw>
     requires { (size ≤ 255) × (place + size ≤ length (unhex line.now)) }
     ensures { result ≡ judged_field field (take size (drop place (unhex line.now))) }
 {
     let mut buffer = [0u8; 255];
-    judge_in(line, place, field, &mut buffer[..size])
+    let text = &mut buffer[..size];
+    hex::bytes_from(line, place, text);
+    judge_field(field, text)
 }
 
-// The field of line `number` at the index `i`.
-fn field_of(number: usize, i: usize) -> Field
-    requires { i < length (fields_of number) }
-    ensures { result ≡ get_or (fields_of number) i (needed Identifier) }
-{
-    if number == 1 {
-        return creditor_field(i);
-    }
-    collection_field(i)
-}
-
-// The texts from a place on, judged as the fields of line `number`, of which `before` stand before the texts.
-fn judge_texts(line: &[u8], number: usize, from: usize, before: usize) -> JudgedLine
+// The texts from a place on, judged as these fields, of which `before` stand before the texts.
+fn judge_texts(line: &[u8], fields: &[Field], from: usize, before: usize) -> Result<(), BadField>
     requires { before ≤ 3 }
-    ensures { result ≡ first_bad before (judged_texts (fields_of number) (texts (length (fields_of number)) (drop from (unhex line.now)))) }
+    ensures { result ≡ first_bad before (judged_texts fields.now (texts (length fields.now) (drop from (unhex line.now)))) }
 {
     let end = line.len() / 2;
-    let frame = frames::frame_of(number);
-    let texts = frame.texts;
     let mut at = from;
-    let mut i = 0;
-    while i < texts {
+    for (i, &field) in fields.iter().enumerate() {
         if end <= at {
-            return JudgedLine::Good;
+            return Ok(());
         }
-        let length = hex::byte_at(line, at) as usize;
+        let length = usize::from(hex::byte_at(line, at));
         at += 1;
-        let size = frames::least(length, end - at);
-        let field = field_of(number, i);
-        if let Judged::Bad(flaw) = judge_part(line, at, size, field) {
-            return JudgedLine::Bad(flaw, before + i + 1);
+        let size = length.min(end - at);
+        if let Err(flaw) = judge_part(line, at, size, field) {
+            return Err(BadField {
+                flaw,
+                field: before + i + 1,
+            });
         }
         at += size;
-        i += 1;
     }
-    JudgedLine::Good
+    Ok(())
 }
 
 // ─── a line ───
 
-// The first field of line `number` that breaks its rule.
-pub fn judge_line(line: &[u8], number: usize) -> JudgedLine
+// The first field of line `number` that breaks its rule. The texts stand after the kind byte, and in a collection after seven lead bytes too, its first three fields.
+pub fn judge_line(line: &[u8], number: usize) -> Result<(), BadField>
     ensures { result ≡ judged_line number (unhex line.now) }
 {
-    if let JudgedLine::Bad(flaw, field) = judge_lead(line, number) {
-        return JudgedLine::Bad(flaw, field);
+    // The creditor's line, by its number as in `frames::frame_of`.
+    if number == 1 {
+        return judge_texts(line, &CREDITOR, 1, 0);
     }
-    let frame = frames::frame_of(number);
-    let lead = frame.lead;
-    judge_texts(line, number, 1 + lead, lead_fields(number))
+    judge_lead(line)?;
+    judge_texts(line, &COLLECTION, 8, 3)
 }

@@ -11,14 +11,12 @@ use Rattle.profile.specs.Numbers.{CheckNumber, WriteNumber}
 use Rattle.tree.specs.Form.{Message, message}
 use Rattle.tree.specs.Pain008.{document, declaration}
 use Rattle.message.specs.Verdict.{Verdict}
-use Rattle.answer.specs.declared.Checked.{Checked}
-use Rattle.answer.specs.Said.{said}
+use Rattle.answer.specs.Said.{Checked, said}
 use Rattle.promise.specs.Check.{Checks}
 use Rattle.promise.specs.Texts.{TextBreaks}
 use Rattle.daylist.specs.Breaks.{ValueBreaks}
 use Rattle.promise.proofs.Outcome.{said-once, one-outcome}
-use Rattle.write.specs.declared.Written.{Written}
-use Rattle.write.specs.Write.{answer_for, output_for}
+use Rattle.write.specs.Write.{Written, answer_for, output_for}
 use Rattle.write.proofs.Answers.{write_once}
 use Rattle.desk.specs.declared.DeskChecked.{DeskChecked}
 use Rattle.desk.specs.declared.DeskWritten.{DeskWritten}

@@ -10,6 +10,7 @@ use mathlib.Core.Path.{◌≡◌, refl, ap, sym, subst, ◌∙◌}
 use borrow.Author.Tests.{le-leb, lt-leb}
 use lib.ListN.{length, take, drop}
 use lib.Seq.{take_at}
+use Rattle.std.specs.Prelude.{Err, Ok}
 use Rattle.laws.specs.Bytes.{Bytes}
 use Rattle.laws.specs.Lists.{All}
 use Rattle.laws.specs.Put.{put_at}
@@ -26,9 +27,7 @@ use Rattle.tree.specs.Pain008.{document}
 use Rattle.message.specs.Verdict.{Verdict, Verdict.accepted}
 use Rattle.answer.specs.Said.{said}
 use Rattle.promise.specs.Check.{Checks}
-use Rattle.daylist.specs.declared.JudgedList.{JudgedList}
-use Rattle.daylist.specs.declared.JudgedList.TheVariants.{Good, Refused as Bad}
-use Rattle.daylist.specs.Stages.{judged_list}
+use Rattle.daylist.specs.Stages.{JudgedList, judged_list}
 use Rattle.daylist.specs.Breaks.{ValueBreaks}
 use Rattle.daylist.proofs.Breaks.{value-refused}
 use Rattle.daylist.proofs.Early.{Early, list-early}
@@ -50,10 +49,10 @@ use Rattle.demands.specs.Demands.{MeetsNone, FixedMessage, FewestBatches}
 
 -- the answer w in numbers, and the output out' afterwards
 pub data Outcome (s : Bytes) (c : ℕ) (out : Bytes) (w : DeskWritten) (out' : Bytes) : Type 0 where
-  bad : (r : ListRefusal) → judged_list s c ≡ Bad r → JudgedNumber (list_number_of r) → w ≡ written_numbers (refused (list_fault_of r)) → out' ≡ out → Outcome s c out w out'
-  many : (n : ℕ) → judged_list s c ≡ Good n → most_batches < batches_needed s c → w.number ≡ 27 → w.field ≡ 0 → out' ≡ out → Outcome s c out w out'
-  long : (n : ℕ) → judged_list s c ≡ Good n → batches_needed s c ≤ most_batches → length out < length (written s c) → w.number ≡ 28 → w.field ≡ 0 → out' ≡ out → Outcome s c out w out'
-  done : (n : ℕ) → judged_list s c ≡ Good n → batches_needed s c ≤ most_batches → w ≡ record { number = 0; place = length (written s c); field = 0 } → out' ≡ put_at out 0 (written s c)
+  bad : (r : ListRefusal) → judged_list s c ≡ Err r → JudgedNumber (list_number_of r) → w ≡ written_numbers (refused (list_fault_of r)) → out' ≡ out → Outcome s c out w out'
+  many : (n : ℕ) → judged_list s c ≡ Ok n → most_batches < batches_needed s c → w.number ≡ 27 → w.field ≡ 0 → out' ≡ out → Outcome s c out w out'
+  long : (n : ℕ) → judged_list s c ≡ Ok n → batches_needed s c ≤ most_batches → length out < length (written s c) → w.number ≡ 28 → w.field ≡ 0 → out' ≡ out → Outcome s c out w out'
+  done : (n : ℕ) → judged_list s c ≡ Ok n → batches_needed s c ≤ most_batches → w ≡ record { number = 0; place = length (written s c); field = 0 } → out' ≡ put_at out 0 (written s c)
       → Outcome s c out w out'
 
 module _ (s : Bytes) (c : ℕ) (out : Bytes) where
@@ -61,7 +60,7 @@ module _ (s : Bytes) (c : ℕ) (out : Bytes) where
   abbrev Ends : Answer → Type 0
   Ends w = Outcome s c out (written_numbers w) (output_after w (written s c) out)
 
-  fits : Dec (length (written s c) ≤ length out) → (n : ℕ) → judged_list s c ≡ Good n → batches_needed s c ≤ most_batches → Ends (fitted (written s c) (length out))
+  fits : Dec (length (written s c) ≤ length out) → (n : ℕ) → judged_list s c ≡ Ok n → batches_needed s c ≤ most_batches → Ends (fitted (written s c) (length out))
   fits (yes r) n e l =
       let h : fitted (written s c) (length out) ≡ success (length (written s c)) = rw (le-leb (length (written s c)) (length out) r, fitted) in
       subst Ends (sym h) (done n e l refl refl)
@@ -70,7 +69,7 @@ module _ (s : Bytes) (c : ℕ) (out : Bytes) where
       let h : fitted (written s c) (length out) ≡ refused (fault 28 (length (written s c))) = rw (lt-leb (length (written s c)) (length out) x, fitted) in
       subst Ends (sym h) (long n e l x refl refl refl)
 
-  bundles : Dec (batches_needed s c ≤ most_batches) → (n : ℕ) → judged_list s c ≡ Good n → Ends (bundled (batches_needed s c) (fitted (written s c) (length out)))
+  bundles : Dec (batches_needed s c ≤ most_batches) → (n : ℕ) → judged_list s c ≡ Ok n → Ends (bundled (batches_needed s c) (fitted (written s c) (length out)))
   bundles (yes l) n e =
       let w : Answer = fitted (written s c) (length out) in
       let h : bundled (batches_needed s c) w ≡ w = rw (le-leb (batches_needed s c) most_batches l, bundled) in
@@ -81,8 +80,8 @@ module _ (s : Bytes) (c : ℕ) (out : Bytes) where
       subst Ends (sym h) (many n e x refl refl refl)
 
   judges : (j : JudgedList) → judged_list s c ≡ j → Early j → Ends (as_judged j (bundled (batches_needed s c) (fitted (written s c) (length out))))
-  judges (Good n) e h = bundles (dec_le (batches_needed s c) most_batches) n e
-  judges (Bad r) e h = bad r e h refl refl
+  judges (Ok n) e h = bundles (dec_le (batches_needed s c) most_batches) n e
+  judges (Err r) e h = bad r e h refl refl
 
   pub outcome : Outcome s c out (written_numbers (answer_for s c (length out))) (output_for s c out)
   unfolding answer_for output_for
@@ -90,7 +89,7 @@ module _ (s : Bytes) (c : ℕ) (out : Bytes) where
 
 -- ─── the demands of each outcome ───
 
-short : (s : Bytes) (c n : ℕ) → judged_list s c ≡ Good n → batches_needed s c ≤ most_batches → length (written s c) ≤ most_bytes
+short : (s : Bytes) (c n : ℕ) → judged_list s c ≡ Ok n → batches_needed s c ≤ most_batches → length (written s c) ≤ most_bytes
 unfolding written
 short s c n e l = (list-carries s c n e l).accepted.belongs.short
 
@@ -140,7 +139,7 @@ module _ (s : Bytes) (c : ℕ) (out : Bytes) (w : DeskWritten) (out' : Bytes) wh
   -- a written list
   pub record Done : Type 0 where
     pub collections : ℕ
-    pub good : judged_list s c ≡ Good collections
+    pub good : judged_list s c ≡ Ok collections
     pub few : batches_needed s c ≤ most_batches
     pub place : w.place ≡ length (written s c)
     pub output : out' ≡ put_at out 0 (written s c)
@@ -204,7 +203,7 @@ module _ (s : Bytes) (c : ℕ) (out : Bytes) (w : DeskWritten) (out' : Bytes) wh
     Told = (w.number ≡ flaw_number f) × ((w.place ≡ n) × (w.field ≡ i))
 
     -- a list that is judged good has no such value
-    none-breaks : (m : ℕ) → judged_list s c ≡ Good m → ValueBreaks s c f n i → ⊥
+    none-breaks : (m : ℕ) → judged_list s c ≡ Ok m → ValueBreaks s c f n i → ⊥
     none-breaks m e b =
         let d = sym e ∙ (value-refused s c f n i).1 b in
         let z : ◌≡◌ {A = ℕ} 0 1 = cc in
@@ -217,7 +216,7 @@ module _ (s : Bytes) (c : ℕ) (out : Bytes) (w : DeskWritten) (out' : Bytes) wh
         let same : y.0 ≡ f = flaw-once y.0 f (sym (ap list_number_of y.1) ∙ u) in
         let place : list_place_of r ≡ n = sym (ap (λ (v : DeskWritten). v.place) x) ∙ d in
         let field : list_field_of r ≡ i = sym (ap (λ (v : DeskWritten). v.field) x) ∙ g in
-        (value-refused s c f n i).0 (j ∙ ap Bad (y.1 ∙ λ m. Value (same m) (place m) (field m)))
+        (value-refused s c f n i).0 (j ∙ ap Err (y.1 ∙ λ m. Value (same m) (place m) (field m)))
     value-breaks (many m e l x y k) (t, d) = absurd (omega (arith, flaw-number f))
     value-breaks (long m e l r x y k) (t, d) = absurd (omega (arith, flaw-number f))
     value-breaks (done m e l x k) (t, d) = absurd (omega (arith, ap (λ (v : DeskWritten). v.number) x, flaw-number f))

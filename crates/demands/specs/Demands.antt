@@ -26,8 +26,7 @@ use Rattle.tree.specs.Pain008.{document, declaration}
 use Rattle.message.specs.declared.Told.{Told}
 use Rattle.message.specs.Message.{Batch, batches_of, worth}
 use Rattle.message.specs.Verdict.{Verdict.accepted, totals_of}
-use Rattle.answer.specs.declared.Checked.{Checked}
-use Rattle.answer.specs.Said.{said}
+use Rattle.answer.specs.Said.{Checked, said}
 use Rattle.promise.specs.Check.{said_by, room_of, Checks}
 use Rattle.promise.specs.Demand2.{Belongs, Enough}
 use Rattle.promise.specs.Texts.{TextBreaks}
@@ -36,8 +35,7 @@ use Rattle.daylist.specs.Breaks.{ValueBreaks}
 use Rattle.bundle.specs.Bundle.{Fits}
 use Rattle.collections.specs.Listed.{listed}
 use Rattle.written.specs.Written.{message_for}
-use Rattle.write.specs.declared.Written.{Written}
-use Rattle.write.specs.Write.{answered, answer_for, output_for}
+use Rattle.write.specs.Write.{Written, answered, answer_for, output_for}
 use Rattle.carries.specs.Carried.{carried_by, Accepted, CarriesList}
 use Rattle.desk.specs.declared.DeskChecked.{DeskChecked}
 use Rattle.desk.specs.declared.DeskWritten.{DeskWritten}

@@ -6,12 +6,12 @@ ghost use Rattle.answer.specs.Said.{said};
 ghost use Rattle.write.specs.Write.{answered, answer_for, output_for};
 ghost use Rattle.desk.specs.Answers.{checked_numbers, DeskChecks, written_numbers};
 
-use answer::Checked;
-use write::Written;
+use profile::{ListRefusal, Refusal, Totals};
 
 // ─── the check ───
 
-// What the check answers: number 0 and the totals of an accepted message, or the number and place of a refusal.
+// What the check answers: number 0 and the totals of an accepted message, or the number and place of a refusal. Numbers and no Result: this is `struct desk_checked` of
+// include/desk.h.
 #[repr(C)]
 #[derive(Clone, Copy)]
 pub struct DeskChecked {
@@ -23,24 +23,26 @@ pub struct DeskChecked {
 }
 
 // The answer in numbers.
-fn checked_numbers(checked: Checked) -> DeskChecked
-    ensures { result ≡ checked_numbers (said checked) }
-{
-    match checked {
-        Checked::Accepted(totals) => DeskChecked {
-            number: 0,
-            place: 0,
-            batches: totals.batches,
-            transactions: totals.transactions.0,
-            cents: totals.cents.0,
-        },
-        Checked::Refused(refusal) => DeskChecked {
-            number: refusal.number(),
-            place: refusal.place() as u64,
-            batches: 0,
-            transactions: 0,
-            cents: 0,
-        },
+impl From<Result<Totals, Refusal>> for DeskChecked {
+    ghost from_gives = { λ checked numbers. numbers ≡ checked_numbers (said checked) };
+
+    fn from(checked: Result<Totals, Refusal>) -> DeskChecked {
+        match checked {
+            Ok(totals) => DeskChecked {
+                number: 0,
+                place: 0,
+                batches: totals.batches,
+                transactions: totals.transactions.0,
+                cents: totals.cents.0,
+            },
+            Err(refusal) => DeskChecked {
+                number: refusal.number(),
+                place: refusal.place() as u64,
+                batches: 0,
+                transactions: 0,
+                cents: 0,
+            },
+        }
     }
 }
 
@@ -48,12 +50,12 @@ fn checked_numbers(checked: Checked) -> DeskChecked
 pub fn desk_check(message: &[u8], slips: &mut [u64], rows: &mut [u64]) -> DeskChecked
     ensures { DeskChecks message.now slips.old rows.old result slips.new rows.new }
 {
-    checked_numbers(checking::check(message, slips, rows))
+    DeskChecked::from(checking::check(message, slips, rows))
 }
 
 // ─── the writer ───
 
-// What the writer answers: number 0 and the length of the message, or the number and place of a refusal, and the field of a value.
+// What the writer answers: number 0 and the length of the message, or the number and place of a refusal, and the field of a value: `struct desk_written` of include/desk.h.
 #[repr(C)]
 #[derive(Clone, Copy)]
 pub struct DeskWritten {
@@ -63,20 +65,22 @@ pub struct DeskWritten {
 }
 
 // The answer in numbers.
-fn written_numbers(written: Written) -> DeskWritten
-    ensures { result ≡ written_numbers (answered written) }
-{
-    match written {
-        Written::Length(length) => DeskWritten {
-            number: 0,
-            place: length as u64,
-            field: 0,
-        },
-        Written::Refused(refusal) => DeskWritten {
-            number: refusal.number(),
-            place: refusal.place() as u64,
-            field: refusal.field() as u64,
-        },
+impl From<Result<usize, ListRefusal>> for DeskWritten {
+    ghost from_gives = { λ written numbers. numbers ≡ written_numbers (answered written) };
+
+    fn from(written: Result<usize, ListRefusal>) -> DeskWritten {
+        match written {
+            Ok(length) => DeskWritten {
+                number: 0,
+                place: length as u64,
+                field: 0,
+            },
+            Err(refusal) => DeskWritten {
+                number: refusal.number(),
+                place: refusal.place() as u64,
+                field: refusal.field() as u64,
+            },
+        }
     }
 }
 
@@ -85,5 +89,5 @@ pub fn desk_write(list: &[u8], ceiling: u64, out: &mut [u8]) -> DeskWritten
     ensures value { result ≡ written_numbers (answer_for list.now ceiling (length out.old)) }
     ensures out_after { out.new ≡ output_for list.now ceiling out.old }
 {
-    written_numbers(write::write(list, ceiling, out))
+    DeskWritten::from(write::write(list, ceiling, out))
 }

@@ -1,4 +1,5 @@
 // The desk for programs in other languages: the check and the writer with C's calling convention. include/desk.h states them in C.
+// They stand here again, since no crate can stand on a static library, and the demands speak of `desk`.
 #![tactic(auto)]
 
 ghost use Rattle.std.specs.Prelude.{◌≡◌, length};

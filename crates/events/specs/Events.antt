@@ -1,15 +1,14 @@
--- WHAT AN EVENT DOES TO THE ROW OF NUMBERS AND TO THE TABLES, part by part. Not to be believed.
+-- WHAT AN EVENT DOES TO WHAT WAS HEARD AND TO THE TABLES, part by part. Not to be believed.
 --   ended_rows w y rows, ended_row w y   the rows, and what was heard, where the open batch ends
 --   told_row w p a n j                  what was heard where a text of the part p, from a on and n bytes long, is judged j
 --   held_at p place a n                 what an element says that holds elements
 --   Plain p                            a part that begins neither a batch nor a transaction nor an address
 --   Finished st w y s r                what is left after the last event
-use Rattle.std.specs.Prelude.{ℕ, ◌-◌, ◌*◌, ◌<◌, List, ◌≡◌}
+use Rattle.std.specs.Prelude.{ℕ, ◌-◌, ◌*◌, ◌<◌, List, ◌≡◌, Ok}
 use Rattle.profile.specs.Totals.{totals}
 use Rattle.profile.specs.declared.Tally.{Tally}
 use Rattle.profile.specs.declared.Totals.{Totals}
-use Rattle.text.specs.declared.Judged.{Judged}
-use Rattle.text.specs.declared.Judged.TheVariants.{Good}
+use Rattle.text.specs.Rules.{Judged}
 use Rattle.text.specs.Rules as rules
 use Rattle.tree.specs.Parts as part
 use Rattle.message.specs.declared.Told.{Told}
@@ -29,7 +28,7 @@ told_row w p a n j = with_bad (with_said w p (record { mark = 1; start = a; leng
 
 -- an element of the part p that holds elements begins: white space is judged good
 abbrev pub held_at : ℕ → ℕ → ℕ → ℕ → Told
-held_at p place a n = record { part = p; place = place; start = a; length = n; judged = Good 0 }
+held_at p place a n = record { part = p; place = place; start = a; length = n; judged = Ok 0 }
 
 pub record Plain (p : ℕ) : Type 0 where
   pub small : p < parts_end

@@ -1,7 +1,7 @@
 -- THE LINES, CUT ONE BY ONE.
 --   cut_line, last_line   the first line where LF ends it, and where it does not
 --   next-line, end_line   the same of the line at a place, as a part that is lent
---   line-within, line-inside, line-passed   a line ends no later than the bytes, and before their end where it is ended; after it less is left
+--   line-within, line-inside   a line ends no later than the bytes, and before their end where it is ended
 --   starts-go, starts-last, starts-end   where the lines from a place on start
 --   by_first, by_further  what line 1 has, and what every further line has; by_ap: a function of it
 use Prim.Native.Nat.{ℕ, suc, ◌+◌, ◌-◌, ◌<◌, ◌≤◌}
@@ -84,9 +84,6 @@ line-within s at n e h = omega (arith, e, h, span_le not_end (drop at s), length
 
 pub line-inside : (end m : ℕ) → end ≤ m → (end ≡ m → ⊥) → end < m
 line-inside end m h d = omega (arith, h, d)
-
-pub line-passed : (at n m : ℕ) → at + n < m → m - (at + n + 1) < m - at
-line-passed at n m h = omega (arith, h)
 
 pub starts-end : (s : Bytes) (at : ℕ) → length s ≤ at → starts_from at (lines (drop at s)) ≡ []
 starts-end s at h = rw (drop_of_length-le s h)

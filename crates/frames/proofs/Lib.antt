@@ -1,7 +1,7 @@
 -- Digits   hexadecimal digits               Cuts     the lines, cut one by one
 -- Walks    a walk over a frame              Parts    a walk to a text, and the digits of a text
 -- Tables   a table filled from the front    Starts   the lines by their starts
--- Seen     a loop that looks at every byte  Strides  bytes filled in, one by one and by strides
+-- Seen     bytes of a class, by stretches   Strides  bytes filled in, one by one and by strides
 pub mod Digits
 pub mod Cuts
 pub mod Walks

@@ -1,31 +1,16 @@
--- A LOOP THAT LOOKS AT EVERY BYTE, and keeps in a number whether one was outside a class: 0 where none was.
---   seen-go     one byte more is looked at; seen-max: the number is the larger of what it was and what the byte says
---   seen_end    every byte was looked at
+-- BYTES OF A CLASS AT THE FRONT, counted by stretches.
 --   span-skip   n bytes of a class stand before what the rest counts; span_stretch: so they do from a place on
-use Prim.Native.Nat.{ℕ, zero, suc, ◌+◌, ◌-◌, ◌<◌, ◌≤◌, max}
-use native.Mathlib.Nat.{not-suc-le-zero, le_of_suc-le-suc, max-zero, le-max_right}
+use Prim.Native.Nat.{ℕ, zero, suc, ◌+◌, ◌-◌, ◌≤◌}
+use native.Mathlib.Nat.{not-suc-le-zero, le_of_suc-le-suc}
 use native.Mathlib.Omega.{arith}
-use mathlib.Core.Bool.{Bool, true, ◌&&◌, and-true, and-false, and_assoc}
+use mathlib.Core.Bool.{Bool, true}
 use mathlib.Core.List.{[], ◌∷◌}
-use mathlib.Core.Path.{◌≡◌, ap, sym, ◌∙◌}
-use lib.Dec.{T, eqb}
-use lib.ListN.{length, take, drop, get_or, length-drop}
+use mathlib.Core.Path.{◌≡◌, ap, ◌∙◌}
+use lib.Dec.{T}
+use lib.ListN.{length, take, drop, length-drop}
 use lib.Seq.{drop-drop}
-use borrow.Author.Tests.{ne_eqb}
 use Rattle.laws.specs.Bytes.{Bytes, all, span}
 use Rattle.laws.proofs.Tests.{and_l, and_r, T_true, true-T}
-use Rattle.laws.proofs.Loops.{drop-step, all_end}
-
-module _ (p : ℕ → Bool) (s : Bytes) (i : ℕ) (a : Bool) (f : ℕ) where
-  pub seen-go : (g : ℕ) → i < length s → eqb g 0 ≡ (eqb f 0 && p (get_or s i 0)) → a ≡ (eqb f 0 && all p (drop i s)) → a ≡ (eqb g 0 && all p (drop (i + 1) s))
-  seen-go g h e k = k ∙ rw (drop-step s i h, e) (sym (and_assoc (eqb f 0) (p (get_or s i 0)) (all p (drop (i + 1) s))))
-
-  pub seen_end : length s ≤ i → a ≡ (eqb f 0 && all p (drop i s)) → eqb f 0 ≡ a
-  seen_end h k = sym (k ∙ rw (all_end p s i h) (and-true (eqb f 0)))
-
-pub seen-max : (f y : ℕ) → eqb (max f y) 0 ≡ (eqb f 0 && eqb y 0)
-seen-max f zero = rw (max-zero f) (sym (and-true (eqb f 0)))
-seen-max f (suc y) = rw (ne_eqb (suc y) 0 (λ e. omega (arith, e)), and-false) (ne_eqb (max f (suc y)) 0 (λ e. omega (arith, e, le-max_right f (suc y))))
 
 module _ (p : ℕ → Bool) where
   pub span-skip : (n : ℕ) (s : Bytes) → n ≤ length s → T (all p (take n s)) → span p s ≡ n + span p (drop n s)

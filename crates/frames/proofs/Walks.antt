@@ -1,5 +1,5 @@
 -- A WALK OVER A FRAME: `at` is the place that it has come to, and `left` the number of texts that are left.
---   some, behind, passed, none_left                       there is a byte; a place after the lead bytes, and after a text; no text is left
+--   some, behind, passed                                  there is a byte; a place after the lead bytes, and after a text
 --   framed-none, framed-kind, framed-lead, framed-start   there is no byte; the kind differs; the lead bytes are not there; the texts begin
 --   holds-short, holds-over, holds-go, holds-end          there is no length byte; the text runs past the end; it is passed; none is left
 use Prim.Native.Nat.{ℕ, zero, suc, ◌+◌, ◌-◌, ◌<◌, ◌≤◌}
@@ -26,9 +26,6 @@ behind n m k e d h = omega (arith, e, d, h)
 
 pub passed : (n m at b : ℕ) → n ≡ m → at < m → b ≤ m - (at + 1) → at + 1 + b ≤ n
 passed n m at b e h k = omega (arith, e, h, k)
-
-pub none_left : (n : ℕ) → n ≤ 0 → n ≡ 0
-none_left n h = omega (arith, h)
 
 -- ─── the bytes ───
 

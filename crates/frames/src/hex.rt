@@ -8,66 +8,38 @@ ghost use Rattle.frames.specs.Hex.{hex_digit, hex_value, hex, unhex};
 pub fn is_hex_digit(c: u8) -> bool
     ensures { result ≡ hex_digit c }
 {
-    if marks::is_digit(c) {
-        return true;
-    }
-    marks::is_between(b'A', b'F', c)
+    matches!(c, b'0'..=b'9' | b'A'..=b'F')
 }
 
-// What a digit is worth, and 0 where it is none.
+// What a digit is worth, and 0 where it is none. Not a `match` on the two ranges: for that the compiler branches at each digit, and `decode` loses its many at once.
 pub fn hex_value(c: u8) -> u8
     ensures { result ≡ hex_value c }
 {
     if marks::is_digit(c) {
-        return c - 48;
+        return c - b'0';
     }
-    if marks::is_between(b'A', b'F', c) {
-        return c - 55;
+    if (b'A'..=b'F').contains(&c) {
+        return c - b'A' + 10;
     }
     0
-}
-
-// 0 for a digit, 1 for any other byte.
-fn stray(c: u8) -> u8
-    ensures { eqb result 0 ≡ hex_digit c }
-{
-    if is_hex_digit(c) {
-        return 0;
-    }
-    1
-}
-
-// The larger of two bytes.
-fn larger(a: u8, b: u8) -> u8
-    ensures { result ≡ max a b }
-{
-    if a < b {
-        return b;
-    }
-    a
 }
 
 // Every byte is a digit. Every byte is looked at, none depends on another: so the compiler takes many at once.
 fn all_digits(line: &[u8]) -> bool
     ensures { result ≡ all hex_digit line.now }
 {
-    let mut strays: u8 = 0;
-    let mut i = 0;
-    while i < line.len() {
-        strays = larger(strays, stray(line[i]));
-        i += 1;
+    let mut good = true;
+    for &c in line {
+        good &= is_hex_digit(c);
     }
-    strays == 0
+    good
 }
 
 // An even number of digits.
 pub fn is_hex(line: &[u8]) -> bool
     ensures { result ≡ hex line.now }
 {
-    if line.len() % 2 != 0 {
-        return false;
-    }
-    all_digits(line)
+    line.len() % 2 == 0 && all_digits(line)
 }
 
 // The byte at a place of those that the line stands for, counted from 0, and 0 beyond their end.
@@ -85,24 +57,22 @@ pub fn byte_at(line: &[u8], place: usize) -> u8
 // ─── many bytes ───
 
 // Fills `to` with the bytes that the digits stand for: first what each digit is worth, then two a byte. With a width that is known the compiler takes many at once.
+// By index and no zip: `values` is longer than what is read, and of a zip of `iter_mut` a proof does not learn what was written.
 fn decode(digits: &[u8], to: &mut [u8])
     requires { (length digits.now ≡ length to.old * 2) × (length to.old ≤ 16) }
     ensures { to.new ≡ unhex digits.now }
 {
     let mut values = [0u8; 32];
-    let mut j = 0;
-    while j < digits.len() {
-        values[j] = hex_value(digits[j]);
-        j += 1;
+    for i in 0..digits.len() {
+        values[i] = hex_value(digits[i]);
     }
-    let mut i = 0;
-    while i < to.len() {
+    for i in 0..to.len() {
         to[i] = values[i * 2] * 16 + values[i * 2 + 1];
-        i += 1;
     }
 }
 
 // The `width` bytes from `place` on, into `out` from `to` on.
+// That the bytes are there (`place + ..`) is asked of a line and a place in it, as of a slice: a type of both would be made at each stride.
 fn stride(line: &[u8], place: usize, width: usize, to: usize, out: &mut [u8])
     requires width_bound { (width ≤ 16) × (to + width ≤ length out.old) }
     requires width_in_bounds { place + width ≤ length (unhex line.now) }
@@ -112,7 +82,8 @@ fn stride(line: &[u8], place: usize, width: usize, to: usize, out: &mut [u8])
     decode(&line[at..at + width * 2], &mut out[to..to + width]);
 }
 
-// Fills `out` with the bytes from a place on, so many at a time. The last stride ends where `out` ends: it may go over some bytes again.
+// Fills `out` with the bytes from a place on, so many at a time. The last stride ends where `out` ends: it may go over some bytes again, as no chunk of `out` does. As a
+// `for` with `step_by` its last goal, `returns`, did not close.
 fn in_strides(line: &[u8], place: usize, width: usize, out: &mut [u8])
     requires le_width { (1 ≤ width) × ((width ≤ 16) × (width ≤ length out.old)) }
     requires out_in_bounds { place + length out.old ≤ length (unhex line.now) }

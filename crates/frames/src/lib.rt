@@ -22,44 +22,39 @@ pub struct Frame {
 
 // A text field of a frame: its rule, and whether length 0 is good there.
 #[derive(Clone, Copy)]
-pub struct Field {
-    pub rule: text::Rule,
-    pub may_be_empty: bool,
+pub enum Field {
+    Needed(text::Rule),
+    Optional(text::Rule),
 }
 
 // Where a text stands in its line: the digits of its bytes, two a byte.
+// Places and no slice: `text_part` is named in docs/PROMISES.md, and says where a text stands.
 #[derive(Clone, Copy)]
 pub struct TextPart {
     pub start: usize,
     pub length: usize,
 }
 
-// The smaller of two numbers.
-pub fn least(a: usize, b: usize) -> usize
-    ensures { result ≡ min a b }
-{
-    if a < b {
-        return a;
-    }
-    b
-}
+// The creditor's frame.
+pub const CREDITOR: Frame = Frame {
+    kind: 1,
+    lead: 0,
+    texts: 7,
+};
 
-// The frame that a line must hold, lines counted from 1: the creditor's, then collections.
+// The frame of a collection.
+pub const COLLECTION: Frame = Frame {
+    kind: 2,
+    lead: 7,
+    texts: 8,
+};
+
+// The frame that a line must hold, lines counted from 1: the creditor's, then collections. A line's number says its kind, here as in the definitions: an enum of the two
+// would be made of that number at each call.
 pub fn frame_of(line: usize) -> Frame
     ensures { result ≡ frame_of line }
 {
-    if line == 1 {
-        return Frame {
-            kind: 1,
-            lead: 0,
-            texts: 7,
-        };
-    }
-    Frame {
-        kind: 2,
-        lead: 7,
-        texts: 8,
-    }
+    if line == 1 { CREDITOR } else { COLLECTION }
 }
 
 // The bytes that the line stands for are the frame's: its kind byte, its lead bytes, its texts, each a length byte and its bytes, and nothing after the last.
@@ -67,30 +62,20 @@ pub fn is_framed(line: &[u8], frame: Frame) -> bool
     ensures { result ≡ framed frame (unhex line.now) }
 {
     let end = line.len() / 2;
-    if end == 0 {
+    if end == 0 || hex::byte_at(line, 0) != frame.kind || end - 1 < frame.lead {
         return false;
     }
-    let kind = frame.kind;
-    if hex::byte_at(line, 0) != kind {
-        return false;
-    }
-    let lead = frame.lead;
-    if end - 1 < lead {
-        return false;
-    }
-    let mut at = 1 + lead;
-    let mut left = frame.texts;
-    while 0 < left {
+    let mut at = 1 + frame.lead;
+    for _ in 0..frame.texts {
         if end <= at {
             return false;
         }
-        let size = hex::byte_at(line, at) as usize;
+        let size = usize::from(hex::byte_at(line, at));
         at += 1;
         if end - at < size {
             return false;
         }
         at += size;
-        left -= 1;
     }
     at == end
 }
@@ -100,14 +85,11 @@ pub fn text_part(line: &[u8], frame: Frame, i: usize) -> TextPart
     requires { (framed frame (unhex line.now) ≡ true) × (i < frame.texts) }
     ensures { result ≡ part_of frame i (unhex line.now) }
 {
-    let lead = frame.lead;
-    let mut at = 1 + lead;
-    let mut passed = 0;
-    while passed < i {
-        at += 1 + hex::byte_at(line, at) as usize;
-        passed += 1;
+    let mut at = 1 + frame.lead;
+    for _ in 0..i {
+        at += 1 + usize::from(hex::byte_at(line, at));
     }
-    let size = hex::byte_at(line, at) as usize;
+    let size = usize::from(hex::byte_at(line, at));
     TextPart {
         start: (at + 1) * 2,
         length: size * 2,

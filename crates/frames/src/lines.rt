@@ -8,15 +8,11 @@ ghost use Rattle.frames.specs.Lines.{not_end, starts};
 fn is_within(text: &[u8]) -> bool
     ensures { result ≡ all not_end text.now }
 {
-    let mut ended: u8 = 0;
-    let mut i = 0;
-    while i < text.len() {
-        if text[i] == b'\n' {
-            ended = 1;
-        }
-        i += 1;
+    let mut within = true;
+    for &c in text {
+        within &= c != b'\n';
     }
-    ended == 0
+    within
 }
 
 // How far whole stretches of so many bytes without LF go, from a place on that has no LF before it.
@@ -40,14 +36,8 @@ pub fn line_length(text: &[u8]) -> usize
     ensures { result ≡ span not_end text.now }
 {
     let far = stretches(text, 0, 64);
-    let mut i = stretches(text, far, 8);
-    while i < text.len() {
-        if text[i] == b'\n' {
-            return i;
-        }
-        i += 1;
-    }
-    i
+    let near = stretches(text, far, 8);
+    near + marks::run(&text[near..], |c| c != b'\n')
 }
 
 // A line is found again by a table of starts, at most 1,001 numbers that the caller lends: it is filled in one pass over the bytes, and then each line is reached
@@ -57,18 +47,15 @@ pub fn line_length(text: &[u8]) -> usize
 pub fn line_starts(list: &[u8], table: &mut [usize])
     ensures { table.new ≡ put_at table.old 0 (take (length table.old) (starts list.now)) }
 {
-    let mut done = 0;
     let mut at = 0;
-    while at < list.len() {
-        if table.len() <= done {
+    for start in table {
+        if list.len() <= at {
             return;
         }
-        table[done] = at;
-        done += 1;
+        *start = at;
         at += line_length(&list[at..]);
-        if at == list.len() {
-            return;
+        if at < list.len() {
+            at += 1;
         }
-        at += 1;
     }
 }

@@ -19,7 +19,8 @@ use Rattle.message.specs.declared.Told.{Told}
 use Rattle.message.specs.Message.{is, before, parts, the, worth_of}
 use Rattle.message.specs.Addresses.{unstructured_ends, good_mix, here, address_of, parties_in, parties_of}
 use Rattle.message.specs.Verdict.{at, or_else, first, unless_at, place_in, mix_fault}
-use Rattle.heard.specs.State.{if_true, if_any, Word, nothing, opens, Mixes, marked, address_in, mix_in, judged_mixes, ended_mixes, State, shut, added, began, saying, inside_batch, step}
+use Rattle.heard.specs.declared.Word.{Word}
+use Rattle.heard.specs.State.{if_true, if_any, nothing, opens, Mixes, marked, address_in, mix_in, judged_mixes, ended_mixes, State, shut, added, began, saying, inside_batch, step}
 use Rattle.heard.proofs.Fold.{by_bool, or_none, or_assoc, fold, project, keeps, stays, sections, run_view}
 use Rattle.heard.proofs.Words.{word_of, saying-word, inside-word, worth_word}
 use Rattle.heard.proofs.Batches as batches

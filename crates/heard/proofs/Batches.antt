@@ -22,7 +22,8 @@ use Rattle.message.specs.declared.Told.{Told}
 use Rattle.message.specs.Message as M
 use Rattle.message.specs.Message.{is, before, parts, transaction_of, batch_of, cents_of, exact_count, exact_sum}
 use Rattle.message.specs.Verdict.{or_else, at, batch_fault, slip, row}
-use Rattle.heard.specs.State.{if_true, if_any, Word, nothing, opens, fault_from, put_if_room, slip_numbers, row_numbers, State, settled_tally, settled_slips, shut, added, began, saying, inside_batch}
+use Rattle.heard.specs.declared.Word.{Word}
+use Rattle.heard.specs.State.{if_true, if_any, nothing, opens, fault_from, put_if_room, slip_numbers, row_numbers, State, settled_tally, settled_slips, shut, added, began, saying, inside_batch}
 use Rattle.heard.proofs.Fold.{by_bool, fold, stays, none_before, sections, run_view}
 use Rattle.heard.proofs.Words.{word_of, saying-word, inside-word, saying-mark, span-word, declared-word, worth_word, count_word, sum-word}
 

@@ -14,7 +14,8 @@ use Rattle.profile.specs.declared.Tally.{Tally}
 use Rattle.tree.specs.Parts as part
 use Rattle.message.specs.declared.Told.{Told}
 use Rattle.message.specs.Message.{is, worth}
-use Rattle.heard.specs.State.{if_true, if_any, Word, word, State, fresh, settled_tally, added, began, saying, step}
+use Rattle.heard.specs.declared.Word.{Word}
+use Rattle.heard.specs.State.{if_true, if_any, word, State, fresh, settled_tally, added, began, saying, step}
 use Rattle.heard.specs.Bounds.{Within, Sane}
 use Rattle.heard.proofs.Fold.{by_bool}
 

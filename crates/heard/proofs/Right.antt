@@ -26,7 +26,8 @@ use Rattle.message.specs.Message as M
 use Rattle.message.specs.Message.{is, before, parts, all_of, the, batch_of, batches_of, exact_count, exact_sum}
 use Rattle.message.specs.Addresses.{parties_of}
 use Rattle.message.specs.Verdict.{or_else, first, place_after, broken, first_broken, mix_fault, batch_fault, totals_of, start_and_length, declared, slip, slips_from, slips_of, row, rows_from, rows_of}
-use Rattle.heard.specs.State.{if_true, Limit, limit_step, over, put_if_room, State, fresh, shut, added, began, saying, inside_batch, step}
+use Rattle.heard.specs.declared.Limit.{Limit}
+use Rattle.heard.specs.State.{if_true, limit_step, over, put_if_room, State, fresh, shut, added, began, saying, inside_batch, step}
 use Rattle.heard.proofs.Fold.{by_bool, or_none, or_assoc, fold, project, sections, run_view}
 use Rattle.heard.proofs.Words.{word_of, step-word}
 use Rattle.heard.proofs.Addresses.{found, found_right}

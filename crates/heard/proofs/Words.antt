@@ -19,7 +19,8 @@ use Rattle.tree.specs.Parts as part
 use Rattle.message.specs.declared.Told.{Told}
 use Rattle.message.specs.Message.{is, all_of, last_or, worth, worth_of}
 use Rattle.message.specs.Verdict.{unless, differs, start_and_length, declared}
-use Rattle.heard.specs.State.{if_true, when, Word, nothing, word, count_of, sum_of, State, added, began, saying, inside_batch, step}
+use Rattle.heard.specs.declared.Word.{Word}
+use Rattle.heard.specs.State.{if_true, when, nothing, word, count_of, sum_of, State, added, began, saying, inside_batch, step}
 use Rattle.heard.proofs.Fold.{by_bool, fold, project, keeps}
 
 abbrev pub word_of : Option Told → Word

@@ -1,68 +1,37 @@
--- WHAT WAS HEARD, IN A ROW OF NUMBERS, as it is lent from event to event. Not to be believed: no promise to a caller speaks of it.
--- Four numbers for each part, at 4 × its number: its word. After them two for each first fault, and for the address that is open.
---   heard_length, flaw_slot ..   how many numbers they are, where the first faults stand
---   Row, row_by, row_of ns   what the numbers say
---   state_of ns y s r   with the tally y and the tables s and r
---   bad_in, fault_at, place_at   a first fault, or a place, in two numbers
---   noted, counted     a first fault noted at a slot, an element counted there
---   with_said, without_from, with_bad, with_batch_counted, with_transaction_counted, with_fault, with_mixes, with_address, without_address, with_early, with_late   what each of the stores does
-use Rattle.std.specs.Prelude.{ℕ, ◌+◌, ◌-◌, ◌*◌, Bool, List, [], ◌∷◌, eqb, ltb, get_or}
+-- WHAT WAS HEARD, READ FROM THE STRUCT that is lent from event to event. Not to be believed: no promise to a caller speaks of it.
+--   Row, row_of h       what it says
+--   place_in, bad_in, noted_in, mixes_in   the same of its fields
+--   state_of h y s r    with the tally y and the tables s and r
+--   with_said, without_from, with_bad, with_batch_counted, with_transaction_counted, with_fault, with_mixes, with_address   what each of the stores does
+use Rattle.std.specs.Prelude.{ℕ, List, eqb, ltb, get_or, Option as Maybe, None, Some}
 use Rattle.std.proofs.Math.Option.{Option, none, some}
-use Rattle.laws.specs.Put.{put_at}
 use Rattle.profile.specs.Refusals.{Fault, fault, flaw_number}
-use Rattle.profile.specs.Flaws.{flaw_of}
+use Rattle.profile.specs.declared.Flaw.{Flaw}
 use Rattle.profile.specs.declared.Tally.{Tally}
-use Rattle.tree.specs.Parts.{parts_end}
-use Rattle.message.specs.Verdict.{at, or_else, unless_at}
-use Rattle.heard.specs.State.{if_true, if_any, Word, nothing, Limit, fewer, Mixes, State}
+use Rattle.message.specs.Verdict.{or_else}
+use Rattle.heard.specs.declared.Limit.{Limit}
+use Rattle.heard.specs.declared.Fault.{Fault as NumberedPlace}
+use Rattle.heard.specs.declared.AddressMixes.{AddressMixes}
+use Rattle.heard.specs.declared.Heard.{Heard}
+use Rattle.heard.specs.declared.Word.{Word}
+use Rattle.heard.specs.State.{if_true, nothing, fewer, Mixes, State}
 
-abbrev pub flaw_slot : ℕ
-flaw_slot = 4 * parts_end
+-- ─── what the fields say ───
 
-abbrev pub batches_slot : ℕ
-batches_slot = flaw_slot + 2
+abbrev pub place_in : Maybe ℕ → Option ℕ
+place_in None = none
+place_in (Some p) = some p
 
-abbrev pub transactions_slot : ℕ
-transactions_slot = flaw_slot + 4
+abbrev pub bad_in : Maybe (Flaw × ℕ) → Option Fault
+bad_in None = none
+bad_in (Some x) = some (fault (flaw_number x.0) x.1)
 
-abbrev pub fault_slot : ℕ
-fault_slot = flaw_slot + 6
+abbrev pub noted_in : Maybe NumberedPlace → Option Fault
+noted_in None = none
+noted_in (Some x) = some (fault x.number x.place)
 
-abbrev pub mix_slot : ℕ
-mix_slot = flaw_slot + 8
-
-abbrev pub address_slot : ℕ
-address_slot = flaw_slot + 10
-
-abbrev pub early_slot : ℕ
-early_slot = flaw_slot + 12
-
-abbrev pub late_slot : ℕ
-late_slot = flaw_slot + 14
-
-abbrev pub heard_length : ℕ
-heard_length = flaw_slot + 16
-
--- ─── what the numbers say ───
-
-abbrev pub word_at : List ℕ → ℕ → Word
-word_at ns p = record { mark = get_or ns (4 * p) 0; start = get_or ns (4 * p + 1) 0; length = get_or ns (4 * p + 2) 0; worth = get_or ns (4 * p + 3) 0 }
-
-abbrev pub words_in : List ℕ → ℕ → Word
-words_in ns p = if_true (ltb p parts_end) (word_at ns p) nothing
-
-abbrev pub limit_at : ℕ → ℕ → Limit
-limit_at n p = record { left = n; place = p }
-
--- a number that is not 0 is read as that of a flaw
-abbrev pub bad_in : ℕ → ℕ → Option Fault
-bad_in n p = if_any n (some (fault (flaw_number (flaw_of n)) p)) none
-
-abbrev pub fault_at : ℕ → ℕ → Option Fault
-fault_at n p = if_any n (some (fault n p)) none
-
-abbrev pub place_at : ℕ → ℕ → Option ℕ
-place_at n p = if_any n (some p) none
+abbrev pub mixes_in : AddressMixes → Mixes
+mixes_in m = record { found = noted_in m.found; address = place_in m.address; early = noted_in m.early; late = noted_in m.late }
 
 pub record Row : Type 0 where
   pub said : ℕ → Word
@@ -72,19 +41,15 @@ pub record Row : Type 0 where
   pub fault : Option Fault
   pub mixes : Mixes
 
--- of the words, and of the numbers after them, from 0 on
-abbrev pub row_by : (ℕ → Word) → (ℕ → ℕ) → Row
-row_by said g = record {
-  said = said;
-  bad = bad_in (g 0) (g 1);
-  batches = limit_at (g 2) (g 3);
-  transactions = limit_at (g 4) (g 5);
-  fault = fault_at (g 6) (g 7);
-  mixes = record { found = fault_at (g 8) (g 9); address = place_at (g 10) (g 11); early = fault_at (g 12) (g 13); late = fault_at (g 14) (g 15) };
+unfoldable pub row_of : Heard → Row
+row_of h = record {
+  said = λ p. get_or h.said p nothing;
+  bad = bad_in h.flaw;
+  batches = h.batches;
+  transactions = h.transactions;
+  fault = noted_in h.fault;
+  mixes = mixes_in h.addresses;
 }
-
-unfoldable pub row_of : List ℕ → Row
-row_of ns = row_by (words_in ns) (λ i. get_or ns (flaw_slot + i) 0)
 
 abbrev pub state_with : Row → Tally → List ℕ → List ℕ → State
 state_with w y s r = record {
@@ -99,65 +64,32 @@ state_with w y s r = record {
   rows = r;
 }
 
-abbrev pub state_of : List ℕ → Tally → List ℕ → List ℕ → State
-state_of ns y s r = state_with (row_of ns) y s r
+abbrev pub state_of : Heard → Tally → List ℕ → List ℕ → State
+state_of h y s r = state_with (row_of h) y s r
 
 -- ─── what a store does ───
 
--- a first fault at the slot i: an earlier one stays
-abbrev pub noted : List ℕ → ℕ → ℕ → ℕ → List ℕ
-noted ns i n p = if_any (get_or ns i 0) ns (put_at ns i (n ∷ p ∷ []))
-
--- one element more, of those that the numbers at i count
-abbrev pub counted : List ℕ → ℕ → ℕ → List ℕ
-counted ns i p = if_any (get_or ns i 0) (put_at ns i ((get_or ns i 0 - 1) ∷ p ∷ [])) ns
-
 abbrev pub with_said : Row → ℕ → Word → Row
-with_said w q x = record { said = λ p. if_true (eqb q p) x (w.said p); bad = w.bad; batches = w.batches; transactions = w.transactions; fault = w.fault; mixes = w.mixes }
+with_said w q x = record w { said = λ p. if_true (eqb q p) x (w.said p) }
 
 abbrev pub without_from : Row → ℕ → Row
-without_from w n = record { said = λ p. if_true (ltb p n) (w.said p) nothing; bad = w.bad; batches = w.batches; transactions = w.transactions; fault = w.fault; mixes = w.mixes }
+without_from w n = record w { said = λ p. if_true (ltb p n) (w.said p) nothing }
 
 abbrev pub with_bad : Row → Option Fault → Row
-with_bad w f = record { said = w.said; bad = or_else w.bad f; batches = w.batches; transactions = w.transactions; fault = w.fault; mixes = w.mixes }
+with_bad w f = record w { bad = or_else w.bad f }
 
 abbrev pub with_fault : Row → Option Fault → Row
-with_fault w f = record { said = w.said; bad = w.bad; batches = w.batches; transactions = w.transactions; fault = or_else w.fault f; mixes = w.mixes }
+with_fault w f = record w { fault = or_else w.fault f }
 
 abbrev pub with_batch_counted : Row → ℕ → Row
-with_batch_counted w p = record {
-  said = w.said;
-  bad = w.bad;
-  batches = fewer w.batches.left w.batches.place p;
-  transactions = w.transactions;
-  fault = w.fault;
-  mixes = w.mixes;
-}
+with_batch_counted w p = record w { batches = fewer w.batches.left w.batches.place p }
 
 abbrev pub with_transaction_counted : Row → ℕ → Row
-with_transaction_counted w p = record {
-  said = w.said;
-  bad = w.bad;
-  batches = w.batches;
-  transactions = fewer w.transactions.left w.transactions.place p;
-  fault = w.fault;
-  mixes = w.mixes;
-}
+with_transaction_counted w p = record w { transactions = fewer w.transactions.left w.transactions.place p }
 
 abbrev pub with_mixes : Row → Mixes → Row
-with_mixes w m = record { said = w.said; bad = w.bad; batches = w.batches; transactions = w.transactions; fault = w.fault; mixes = m }
+with_mixes w m = record w { mixes = m }
 
 -- an address begins at the place p
 abbrev pub with_address : Row → ℕ → Row
-with_address w p = let m = w.mixes in with_mixes w (record { found = m.found; address = some p; early = m.early; late = m.late })
-
--- none is open
-abbrev pub without_address : Row → Row
-without_address w = let m = w.mixes in with_mixes w (record { found = m.found; address = none; early = m.early; late = m.late })
-
--- the address at the place p, where it is bad at an early date, and at a late one
-abbrev pub with_early : Row → Bool → ℕ → Row
-with_early w good p = let m = w.mixes in with_mixes w (record { found = m.found; address = m.address; early = or_else m.early (at 59 (unless_at good (some p))); late = m.late })
-
-abbrev pub with_late : Row → Bool → ℕ → Row
-with_late w good p = let m = w.mixes in with_mixes w (record { found = m.found; address = m.address; early = m.early; late = or_else m.late (at 59 (unless_at good (some p))) })
+with_address w p = with_mixes w (record w.mixes { address = some p })

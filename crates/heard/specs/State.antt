@@ -2,24 +2,23 @@
 --   if_true z a b, if_any k a b   a where the test z holds, or k is not 0; else b
 --   when z p                    p where the test z holds; else none
 --   Word, nothing, word t       what a part last said: 1, its text's start and length, and the number that it states; all 0 where it said nothing
---   Limit, limit_step n l t      how many elements of the part n may still come before one is too many, and the place of the last one
+--   fewer, limit_step n l t      one element of the part n fewer may still come before one is too many, and it is the last one
+--   over left place             the place of the first that is too many
 --   Mixes, address_in said       what was heard of addresses; what stands in the one that is open
 --   opened_mixes, judged_mixes, ended_mixes, begun_mixes   an address begins; the open one is judged; the open batch ended, and another begun
 --   State                       what was said, part by part; first faults; addresses; the tally; the two lent tables
 --   settled, shut st            the open transaction added, and the open address judged; the open batch closed too
 --   added, began, saying        the three things that an event does: it begins a transaction, or a batch, and its text says something
 --   step st t                   what was heard with the event t
-use Rattle.std.specs.Prelude.{ℕ, zero, suc, ◌+◌, ◌-◌, ◌*◌, Bool, true, false, List, [], ◌∷◌, ◌++◌, eqb, ltb, leb, length}
+use Rattle.std.specs.Prelude.{ℕ, zero, suc, ◌+◌, ◌-◌, ◌*◌, Bool, true, false, List, [], ◌∷◌, ◌++◌, eqb, ltb, leb, length, None, Some}
 use Rattle.std.proofs.Math.Option.{Option, none, some}
 use Rattle.laws.specs.Lists.{gather}
 use Rattle.laws.specs.Put.{put_at}
 use Rattle.profile.specs.Limits.{most_batches, most_transactions}
 use Rattle.profile.specs.Refusals.{Fault}
-use Rattle.profile.specs.Totals.{count_differs, sum_differs, fresh_tally, with_transaction, closed, begun}
-use Rattle.profile.specs.declared.DeclaredCount.{DeclaredCount}
-use Rattle.profile.specs.declared.DeclaredCount.TheVariants.{Count, Absent as NoCount}
+use Rattle.profile.specs.Totals.{DeclaredCount, count_differs, sum_differs, fresh_tally, with_transaction, closed, begun}
 use Rattle.profile.specs.declared.DeclaredSum.{DeclaredSum}
-use Rattle.profile.specs.declared.DeclaredSum.TheVariants.{Cents, Absent as NoSum}
+use Rattle.profile.specs.declared.DeclaredSum.TheVariants.{Absent, Cents}
 use Rattle.profile.specs.declared.Batch.{Batch}
 use Rattle.profile.specs.declared.Tally.{Tally}
 use Rattle.tree.specs.Parts as part
@@ -28,6 +27,8 @@ use Rattle.message.specs.declared.Address.{Address}
 use Rattle.message.specs.Message.{is, worth}
 use Rattle.message.specs.Addresses.{unstructured_ends, good_mix}
 use Rattle.message.specs.Verdict.{at, or_else, broken, unless_at}
+use Rattle.heard.specs.declared.Word.{Word}
+use Rattle.heard.specs.declared.Limit.{Limit}
 
 abbrev pub if_true : {A : Type 0} → Bool → A → A → A
 if_true true a b = a
@@ -42,12 +43,6 @@ when z p = if_true z (some p) none
 
 -- ─── 1. What a part last said ───
 
-pub record Word : Type 0 where
-  pub mark : ℕ
-  pub start : ℕ
-  pub length : ℕ
-  pub worth : ℕ
-
 abbrev pub nothing : Word
 nothing = record { mark = 0; start = 0; length = 0; worth = 0 }
 
@@ -59,10 +54,6 @@ abbrev pub opens : ℕ → (ℕ → Word) → ℕ → Word
 opens n said p = if_true (ltb p n) (said p) (if_true (eqb p n) (record { mark = 1; start = 0; length = 0; worth = 0 }) nothing)
 
 -- ─── 2. Limits ───
-
-pub record Limit : Type 0 where
-  pub left : ℕ
-  pub place : ℕ
 
 -- the place of the last one stays
 abbrev pub fewer : ℕ → ℕ → ℕ → Limit
@@ -79,10 +70,10 @@ over (suc k) p = none
 -- ─── 3. A batch that ends ───
 
 abbrev pub count_of : Word → DeclaredCount
-count_of w = if_any w.mark (Count (record { 0 = w.worth })) NoCount
+count_of w = if_any w.mark (Some (record { 0 = w.worth })) None
 
 abbrev pub sum_of : Word → DeclaredSum
-sum_of w = if_any w.mark (Cents (record { 0 = w.worth })) NoSum
+sum_of w = if_any w.mark (Cents (record { 0 = w.worth })) Absent
 
 abbrev pub batch_from : (ℕ → Word) → Tally → Batch
 batch_from said y = record { count = y.count; sum = y.sum; declared_count = count_of (said part.batch_count); declared_sum = sum_of (said part.batch_sum) }
@@ -120,21 +111,20 @@ mix_in early said o = at 59 (unless_at (good_mix early (address_in said)) o)
 
 -- an address begins
 abbrev pub opened_mixes : Mixes → Told → Mixes
-opened_mixes m t = record { found = m.found; address = if_true (is part.address t) (some t.place) m.address; early = m.early; late = m.late }
+opened_mixes m t = record m { address = if_true (is part.address t) (some t.place) m.address }
 
 abbrev pub judged_mixes : (ℕ → Word) → Mixes → Mixes
-judged_mixes said m = record {
-  found = m.found;
+judged_mixes said m = record m {
   address = none;
   early = or_else m.early (mix_in true said m.address);
   late = or_else m.late (mix_in false said m.address);
 }
 
 abbrev pub ended_mixes : ℕ → Mixes → Mixes
-ended_mixes date m = record { found = or_else m.found (if_true (ltb date unstructured_ends) m.early m.late); address = m.address; early = m.early; late = m.late }
+ended_mixes date m = record m { found = or_else m.found (if_true (ltb date unstructured_ends) m.early m.late) }
 
 abbrev pub begun_mixes : Mixes → Mixes
-begun_mixes m = record { found = m.found; address = m.address; early = none; late = none }
+begun_mixes m = record m { early = none; late = none }
 
 -- ─── 5. The rows ───
 
@@ -196,28 +186,14 @@ settled_slips st =
     if_any y.batches (if_any (st.said part.transaction).mark (put_if_room st.slips (12 * (y.transactions.0 + y.count.0)) 12 (slip_numbers y.batches st.said)) st.slips) st.slips
 
 abbrev pub settled : State → State
-settled st = record {
-  said = st.said;
-  bad = st.bad;
-  batches = st.batches;
-  transactions = st.transactions;
-  fault = st.fault;
-  mixes = judged_mixes st.said st.mixes;
-  tally = settled_tally st;
-  slips = settled_slips st;
-  rows = st.rows;
-}
+settled st = record st { mixes = judged_mixes st.said st.mixes; tally = settled_tally st; slips = settled_slips st }
 
 -- the open batch closed, where there is one
 abbrev pub shut : State → State
 shut st =
     let y = settled_tally st in
     let k = y.batches in
-    record {
-      said = st.said;
-      bad = st.bad;
-      batches = st.batches;
-      transactions = st.transactions;
+    record st {
       fault = if_any k (or_else st.fault (fault_from st.said y)) st.fault;
       mixes = let m = judged_mixes st.said st.mixes in if_any k (ended_mixes (st.said part.collection_date).worth m) m;
       tally = closed y;
@@ -227,48 +203,20 @@ shut st =
 
 -- a transaction begins
 abbrev pub added : State → State
-added st =
-    let a = settled st in
-    record {
-      said = opens part.transaction a.said;
-      bad = a.bad;
-      batches = a.batches;
-      transactions = a.transactions;
-      fault = a.fault;
-      mixes = a.mixes;
-      tally = a.tally;
-      slips = a.slips;
-      rows = a.rows;
-    }
+added st = let a = settled st in record a { said = opens part.transaction a.said }
 
 -- a batch begins
 abbrev pub began : State → State
-began st =
-    let a = shut st in
-    record {
-      said = opens part.batch a.said;
-      bad = a.bad;
-      batches = a.batches;
-      transactions = a.transactions;
-      fault = a.fault;
-      mixes = begun_mixes a.mixes;
-      tally = begun a.tally;
-      slips = a.slips;
-      rows = a.rows;
-    }
+began st = let a = shut st in record a { said = opens part.batch a.said; mixes = begun_mixes a.mixes; tally = begun a.tally }
 
 -- what an event says
 abbrev pub saying : State → Told → State
-saying st t = record {
+saying st t = record st {
   said = λ p. if_true (is p t) (word t) (st.said p);
   bad = or_else st.bad (broken t.judged t.start);
   batches = limit_step part.batch st.batches t;
   transactions = limit_step part.transaction st.transactions t;
-  fault = st.fault;
   mixes = opened_mixes st.mixes t;
-  tally = st.tally;
-  slips = st.slips;
-  rows = st.rows;
 }
 
 -- inside a batch

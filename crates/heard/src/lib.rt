@@ -1,15 +1,19 @@
-// What was heard of a message so far. Definitions of what it must hold: specs/.
+// What was heard of a message so far, lent from event to event. Definitions of what it must hold: specs/.
 //
-//   row      the row of numbers, store by store
-//   mixes    what the row has of addresses
-#![tactic(auto)]
+//   row      what each part said, the first faults, and the limits
+//   mixes    what was heard of addresses
+#![tactic(auto, unfolding(crate::specs::Row::row_of))]
+
+use profile::Flaw;
 
 pub mod mixes;
 pub mod row;
 
-// ─── parts, and places in the row ───
+// ─── parts ───
 
-// The parts that elements play in what a message says, by number.
+// The parts that elements play in what a message says, by number. They are constants and no enum: a part comes as a number from the table of bytes that describes the
+// form, and is an index here. That it is below END the table is asked (`fitting` of plan/specs/Held); a type of such numbers would be made anew at
+// each use.
 #[derive(Clone, Copy)]
 pub struct Part(pub usize);
 
@@ -58,55 +62,74 @@ impl Part {
     pub const END: usize = 23;
 }
 
-// The numbers of a part, from its first on.
+// ─── what was heard ───
+
+// What a part last said.
 #[derive(Clone, Copy)]
-pub struct Word(pub usize);
-
-impl Word {
-    // 1 where it said something, else 0.
-    pub const MARK: usize = 0;
-
-    // Where its text starts.
-    pub const START: usize = 1;
-
-    // How many bytes its text has.
-    pub const LENGTH: usize = 2;
-
-    // The number that its text states.
-    pub const WORTH: usize = 3;
-
-    // How many they are.
-    pub const END: usize = 4;
+pub struct Word {
+    // 1 where it said something, else 0. A number, and no Option round the word: docs/PROMISES.md names the functions that take what was heard, and each promised its
+    // answer for every number here.
+    pub mark: u64,
+    // Where its text starts, how many bytes that has, and the number that it states.
+    pub start: usize,
+    pub length: usize,
+    pub worth: u64,
 }
 
-// Where the row has the first faults, and the address that is open: two numbers for each.
+impl Word {
+    pub const NOTHING: Word = Word {
+        mark: 0,
+        start: 0,
+        length: 0,
+        worth: 0,
+    };
+}
+
+// How many elements may still come before one is too many, and the place of the last one.
 #[derive(Clone, Copy)]
-pub struct Slot(pub usize);
+pub struct Limit {
+    pub left: u64,
+    pub place: usize,
+}
 
-impl Slot {
-    // The first text that breaks its rule: the number of its refusal, and where it starts.
-    pub const FLAW: usize = Word::END * Part::END;
+// A fault: the number of its refusal, and its place. A number, and no enum: docs/PROMISES.md names `note_fault`, which promised its answer for every number from 1 on, and
+// still does.
+#[derive(Clone, Copy)]
+pub struct Fault {
+    pub number: u64,
+    pub place: usize,
+}
 
-    // How many batches may still come before one is too many, and the place of the last one.
-    pub const BATCHES: usize = Slot::FLAW + 2;
+// What was heard of addresses. A fault in each, though only 59 is noted here: docs/PROMISES.md names the functions that keep it, whatever its number.
+#[derive(Clone, Copy)]
+pub struct AddressMixes {
+    // The first address of the batches that ended whose mix is bad.
+    pub found: Option<Fault>,
 
-    // The same of transactions.
-    pub const TRANSACTIONS: usize = Slot::BATCHES + 2;
+    // The place of the one that is open.
+    pub address: Option<usize>,
 
-    // The first batch whose declared count or sum differs: 6 or 7, and the start of that text.
-    pub const FAULT: usize = Slot::TRANSACTIONS + 2;
-
-    // The first address of the batches that ended whose mix is bad: 59, and its place.
-    pub const MIX: usize = Slot::FAULT + 2;
-
-    // The address that is open: 1 where there is one, and its place.
-    pub const ADDRESS: usize = Slot::MIX + 2;
-
-    // The first address of the open batch whose mix is bad where its collection date is early, before Address::UNSTRUCTURED_ENDS: as above.
-    pub const EARLY: usize = Slot::ADDRESS + 2;
+    // The first of the open batch whose mix is bad where its collection date is early, before Address::UNSTRUCTURED_ENDS.
+    pub early: Option<Fault>,
 
     // The same where it is late.
-    pub const LATE: usize = Slot::EARLY + 2;
+    pub late: Option<Fault>,
+}
 
-    pub const END: usize = Slot::LATE + 2;
+// What was heard so far.
+#[derive(Drop)]
+pub struct Heard {
+    // What each part said.
+    pub said: [Word; Part::END],
+
+    // The first text that breaks its rule, and where it starts.
+    pub flaw: Option<(Flaw, usize)>,
+
+    pub batches: Limit,
+    pub transactions: Limit,
+
+    // The first batch whose declared count or sum differs.
+    pub fault: Option<Fault>,
+
+    pub addresses: AddressMixes,
 }

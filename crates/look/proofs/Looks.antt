@@ -2,7 +2,6 @@
 --   ranked-byte              a byte of a rank, as the table has it
 --   plain-text               the bytes of a rank, up to a tag, are the text
 --   seen-identifier, seen_plain   such a text is good by its rule
---   look_told                what holds where a look says good
 use Prim.Native.Nat.{ℕ, suc, ◌+◌, ◌-◌, ◌<◌, ◌≤◌}
 use native.Mathlib.Nat.{not-suc-le-zero, le_of_suc-le-suc}
 use native.Mathlib.Omega.{arith}
@@ -12,6 +11,7 @@ use mathlib.Core.Path.{◌≡◌, refl, sym, ap, subst, subst⁻¹, ◌∙◌}
 use lib.Dec.{T, leb}
 use lib.ListN.{length, take, drop, get_or, length-drop}
 use lib.Seq.{length-take-le, get_or-drop}
+use Rattle.std.specs.Prelude.{Some, None, Ok}
 use Rattle.laws.specs.Bytes.{Bytes, between, all, span}
 use Rattle.laws.proofs.Tests.{T_true, true-T, eqb-cases}
 use Rattle.laws.proofs.Loops.{all-span}
@@ -20,15 +20,12 @@ use Rattle.marks.specs.Ranks.{rank, at_least, ranked}
 use Rattle.marks.proofs.Ranks.{rank-at, least-letter, all-lettered, unslashed}
 use Rattle.text.specs.Rules.{plain, identifier}
 use Rattle.text.specs.Rules as rules
-use Rattle.text.specs.declared.Judged.TheVariants as judged
 use Rattle.text.specs.declared.Rule.{Rule}
 use Rattle.text.specs.declared.Rule.TheVariants.{Identifier}
 use Rattle.text.proofs.Musts.{between_in}
 use Rattle.tree.specs.Form.{in_text}
 use Rattle.scan.proofs.Scans.{run_in}
-use Rattle.look.specs.declared.Look.{Look}
-use Rattle.look.specs.declared.Look.TheVariants.{Good, Unsure}
-use Rattle.look.specs.Look.{text_end, text_to, Plain, PlainLook, GoodLook}
+use Rattle.look.specs.Look.{text_to, Plain, PlainLook, GoodLook, Look}
 
 -- ─── a byte ───
 
@@ -80,28 +77,27 @@ module _ (least longest : ℕ) (s : Bytes) (at end : ℕ) (room : at ≤ length 
   lettered : 1 ≤ least → all letter (text_to s at end) ≡ true
   lettered h = T_true (all letter (text_to s at end)) (all-lettered least h (text_to s at end) w.ranks)
 
-  plain-good : 1 ≤ least → plain longest (text_to s at end) ≡ judged.Good 0
+  plain-good : 1 ≤ least → plain longest (text_to s at end) ≡ Ok 0
   plain-good h = rw (sized, lettered h)
 
-identifier-good : (s : Bytes) (at end : ℕ) → at ≤ length s → Plain 2 35 s at end → identifier (text_to s at end) ≡ judged.Good 0
+identifier-good : (s : Bytes) (at end : ℕ) → at ≤ length s → Plain 2 35 s at end → identifier (text_to s at end) ≡ Ok 0
 identifier-good s at end room w =
     rw (sized 2 35 s at end room w, lettered 2 35 s at end room w (omega arith), unslashed (text_to s at end) (omega (arith, size 2 35 s at end room w, w.some)) w.ranks)
 
--- what a look has seen, where the rule says good of it
-seen : (rule : Rule) (least longest : ℕ) (s : Bytes) (at : ℕ) → ((end : ℕ) → Plain least longest s at end → rules.judged rule (text_to s at end) ≡ judged.Good 0)
-    → (r : Look) → PlainLook least longest s at r → GoodLook rule s at r
-seen rule least longest s at f (Good end) w = (w.run, f end w)
-seen rule least longest s at f Unsure w = tt
+-- what a look with these two numbers has seen
+module _ (s : Bytes) (at : ℕ) (room : at ≤ length s) (rule : Rule) (r : Look) (w : ℕ × ℕ) (h : PlainLook w.0 w.1 s at r) where
+  -- the rule says good of it
+  seen : (q : Rule) (least longest : ℕ) → ((end : ℕ) → Plain least longest s at end → rules.judged q (text_to s at end) ≡ Ok 0) → rule ≡ q → w ≡ (least, longest) → GoodLook rule s at r
+  seen q least longest f e u =
+      subst⁻¹ (λ (k : Rule). GoodLook k s at r) e (go r (subst (λ (v : ℕ × ℕ). PlainLook v.0 v.1 s at r) u h))
+    where
+      go : (x : Look) → PlainLook least longest s at x → GoodLook q s at x
+      go (Some end) p = (p.run, f end p)
+      go None p = tt
 
-module _ (s : Bytes) (at : ℕ) (room : at ≤ length s) (rule : Rule) (r : Look) where
-  pub seen-identifier : rule ≡ Identifier → PlainLook 2 35 s at r → GoodLook rule s at r
-  seen-identifier e = subst⁻¹ (λ (q : Rule). PlainLook 2 35 s at r → GoodLook q s at r) e (seen Identifier 2 35 s at (λ end. identifier-good s at end room) r)
+  pub seen-identifier : rule ≡ Identifier → w ≡ (2, 35) → GoodLook rule s at r
+  seen-identifier = seen Identifier 2 35 (λ end. identifier-good s at end room)
 
   -- of a plain text whose rule is its length
-  pub seen_plain : (q : Rule) (longest : ℕ) → ((x : Bytes) → rules.judged q x ≡ plain longest x) → rule ≡ q → PlainLook 1 longest s at r → GoodLook rule s at r
-  seen_plain q longest p e =
-      subst⁻¹ (λ (q : Rule). PlainLook 1 longest s at r → GoodLook q s at r) e (seen q 1 longest s at (λ end w. p (text_to s at end) ∙ plain-good 1 longest s at end room w (omega arith)) r)
-
--- what holds where a look says good
-pub look_told : (rule : Rule) (s : Bytes) (at end : ℕ) (r : Look) → r ≡ Good end → GoodLook rule s at r → (end ≡ text_end s at) × (rules.judged rule (text_to s at end) ≡ judged.Good 0)
-look_told rule s at end r e w = subst (GoodLook rule s at) e w
+  pub seen_plain : (q : Rule) (longest : ℕ) → ((x : Bytes) → rules.judged q x ≡ plain longest x) → rule ≡ q → w ≡ (1, longest) → GoodLook rule s at r
+  seen_plain q longest p = seen q 1 longest (λ end k. p (text_to s at end) ∙ plain-good 1 longest s at end room k (omega arith))

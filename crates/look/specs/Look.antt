@@ -2,16 +2,13 @@
 --   text_end s at                    where the text ends that starts at the place
 --   text_to s at end                 its bytes
 --   Plain least longest s at end    it ends there, and is 1 to `longest` bytes of a rank
---   PlainLook, GoodLook             what one look promises: nothing where it is unsure
-use Rattle.std.specs.Prelude.{ℕ, ◌+◌, ◌-◌, ◌<◌, ◌≤◌, ◌≡◌, T, take, drop}
+--   Look, PlainLook, GoodLook       what one look promises: nothing where it says nothing
+use Rattle.std.specs.Prelude.{ℕ, ◌+◌, ◌-◌, ◌<◌, ◌≤◌, ◌≡◌, T, take, drop, Option, Some, None, Ok}
 use Rattle.laws.specs.Bytes.{Bytes, all, span}
 use Rattle.marks.specs.Ranks.{at_least}
 use Rattle.text.specs.declared.Rule.{Rule}
 use Rattle.text.specs.Rules as rules
-use Rattle.text.specs.declared.Judged.TheVariants as judged
 use Rattle.tree.specs.Form.{in_text}
-use Rattle.look.specs.declared.Look.{Look}
-use Rattle.look.specs.declared.Look.TheVariants.{Good, Unsure}
 
 abbrev pub text_end : Bytes → ℕ → ℕ
 text_end s at = at + span in_text (drop at s)
@@ -25,10 +22,14 @@ pub record Plain (least longest : ℕ) (s : Bytes) (at end : ℕ) : Type 0 where
   pub few : end - at ≤ longest
   pub ranks : T (all (at_least least) (text_to s at end))
 
+-- where the text ends, if a look says that it is good
+abbrev pub Look : Type 0
+Look = Option ℕ
+
 abbrev pub PlainLook : ℕ → ℕ → Bytes → ℕ → Look → Type 0
-PlainLook least longest s at (Good end) = Plain least longest s at end
-PlainLook least longest s at Unsure = Unit {0}
+PlainLook least longest s at (Some end) = Plain least longest s at end
+PlainLook least longest s at None = Unit {0}
 
 abbrev pub GoodLook : Rule → Bytes → ℕ → Look → Type 0
-GoodLook rule s at (Good end) = (end ≡ text_end s at) × (rules.judged rule (text_to s at end) ≡ judged.Good 0)
-GoodLook rule s at Unsure = Unit {0}
+GoodLook rule s at (Some end) = (end ≡ text_end s at) × (rules.judged rule (text_to s at end) ≡ Ok 0)
+GoodLook rule s at None = Unit {0}

@@ -2,7 +2,7 @@
 -- Letters   the letter set, of each byte and of each mark
 -- Slashes   a loop that looks for slashes
 -- Ranks     what the rank of a byte says
--- Numbers   a loop that reads a number
+-- Numbers   the number that a text spells
 pub mod Classes
 pub mod Letters
 pub mod Slashes

@@ -1,26 +1,20 @@
 -- A LOOP THAT LOOKS FOR SLASHES, with the byte before at hand: 47 is `/`.
---   joined b s                          what the loop still answers where the byte b stands before s
---   joined-slashed                      before the whole, with a slash as the byte before, it is `slashed`
---   joined-stop, joined-go, joined_end  at the index i it stops, goes on, or is at the end
-use Prim.Native.Nat.{ℕ, suc, ◌+◌, ◌-◌, ◌<◌, ◌≤◌}
+--   joined b s       what the loop still answers where the byte b stands before s
+--   joined-slashed   before the whole, with a slash as the byte before, it is `slashed`
+use Prim.Native.Nat.{ℕ, suc, ◌-◌, ◌≤◌}
 use native.Mathlib.Nat.{not-suc-le-zero}
 use native.Mathlib.Omega.{arith}
 use mathlib.Core.Bool.{Bool, true, false, ◌&&◌, ◌||◌}
 use mathlib.Core.List.{[], ◌∷◌}
-use mathlib.Core.Path.{◌≡◌, refl, sym}
+use mathlib.Core.Path.{◌≡◌, refl}
 use lib.Dec.{eqb}
-use lib.ListN.{length, drop, get_or, drop_of_length-le}
-use borrow.Author.Tests.{ne_eqb}
+use lib.ListN.{length, get_or}
 use Rattle.laws.specs.Bytes.{Bytes}
-use Rattle.laws.proofs.Tests.{eqb-cases, eqb_comm}
-use Rattle.laws.proofs.Loops.{drop-step}
 use Rattle.marks.specs.Marks.{slashed, twice}
 
 abbrev pub joined : ℕ → Bytes → Bool
 joined b [] = eqb 47 b
 joined b (c ∷ s) = (eqb 47 b && eqb 47 c) || joined c s
-
--- ─── before the whole ───
 
 last-only : (a x : Bool) → (a || x) ≡ (a || (x || ((x && false) || false)))
 last-only true x = refl
@@ -45,17 +39,3 @@ joined_open b c (d ∷ s) =
 pub joined-slashed : (s : Bytes) → 1 ≤ length s → joined 47 s ≡ slashed s
 joined-slashed [] h = absurd (not-suc-le-zero h)
 joined-slashed (c ∷ s) h = joined_open 47 c s
-
--- ─── at the index i ───
-
-module _ (b : ℕ) (s : Bytes) (i : ℕ) where
-  pub joined-stop : i < length s → get_or s i 0 ≡ 47 → b ≡ 47 → joined b (drop i s) ≡ true
-  joined-stop h e f = rw (drop-step s i h, e, f)
-
-  pub joined-go : i < length s → (get_or s i 0 ≡ 47 → b ≡ 47 → ⊥) → joined b (drop i s) ≡ joined (get_or s i 0) (drop (i + 1) s)
-  joined-go h d = rw (drop-step s i h)
-      (eqb-cases (λ z. ((z && eqb 47 (get_or s i 0)) || joined (get_or s i 0) (drop (i + 1) s)) ≡ joined (get_or s i 0) (drop (i + 1) s)) 47 b
-      (λ f. rw (ne_eqb 47 (get_or s i 0) (λ e. d (sym e) (sym f)))) (λ n. refl))
-
-  pub joined_end : length s ≤ i → joined b (drop i s) ≡ eqb b 47
-  joined_end h = rw (drop_of_length-le s h) (eqb_comm 47 b)

@@ -1,11 +1,6 @@
--- THE CLASSES OF BYTES BY NAME, for the code. Not to be believed: no promise to a caller speaks of it.
---   of k   the class of the name k
-use Rattle.std.specs.Prelude.{ℕ, Bool}
-use Rattle.marks.specs.Marks.{digit, capital_or_digit, letter_or_digit}
-use Rattle.marks.specs.declared.Class.{Class}
-use Rattle.marks.specs.declared.Class.TheVariants.{Digit, CapitalOrDigit, LetterOrDigit}
+-- A CLASS THAT A CLOSURE TELLS, for the code. Not to be believed: no promise to a caller speaks of it but where a closure is passed.
+--   Tells answers p   each answer to a byte says whether the byte is of the class p
+use Rattle.std.specs.Prelude.{ℕ, ◌<◌, Bool, ◌≡◌}
 
-abbrev pub of : Class → ℕ → Bool
-of Digit c = digit c
-of CapitalOrDigit c = capital_or_digit c
-of LetterOrDigit c = letter_or_digit c
+abbrev pub Tells : (ℕ → Bool → Type 0) → (ℕ → Bool) → Type 0
+Tells answers p = (c : ℕ) (b : Bool) → c < 256 → answers c b → b ≡ p c

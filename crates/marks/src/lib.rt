@@ -1,85 +1,49 @@
 // Single bytes and runs of them: the classes that document 01's text rules speak of, the letter set among them, patterns, and the numbers that bytes spell.
 #![tactic(auto)]
 
-ghost use Rattle.std.specs.Prelude.{◌≡◌, true, ◌≤◌, ◌<◌, ◌%◌, length};
-ghost use Rattle.laws.specs.Bytes.{between, all, span, same, has};
-ghost use Rattle.marks.specs.Classes.{of};
+ghost use Rattle.std.specs.Prelude.{ℕ, Bool, ◌≡◌, true, ◌≤◌, ◌<◌, ◌%◌, length};
+ghost use Rattle.laws.specs.Bytes.{all, span, same, has};
+ghost use Rattle.marks.specs.Classes.{Tells};
 ghost use Rattle.marks.specs.Marks.{digit, capital, capital_or_digit, letter_or_digit, letter, slashed, mark, fits, value, letter_value, spelled_from};
 
 // ─── one byte ───
-
-// A byte from `a` to `b`.
-pub fn is_between(a: u8, b: u8, c: u8) -> bool
-    ensures { result ≡ between a b c }
-{
-    if c < a {
-        return false;
-    }
-    c <= b
-}
 
 // 0-9.
 pub fn is_digit(c: u8) -> bool
     ensures { result ≡ digit c }
 {
-    is_between(b'0', b'9', c)
+    c.is_ascii_digit()
 }
 
 // A-Z.
 pub fn is_capital(c: u8) -> bool
     ensures { result ≡ capital c }
 {
-    is_between(b'A', b'Z', c)
+    c.is_ascii_uppercase()
 }
 
 // A-Z 0-9.
 pub fn is_capital_or_digit(c: u8) -> bool
     ensures { result ≡ capital_or_digit c }
 {
-    if is_capital(c) {
-        return true;
-    }
-    is_digit(c)
+    is_capital(c) || is_digit(c)
 }
 
 // A-Z 0-9 a-z.
 pub fn is_letter_or_digit(c: u8) -> bool
     ensures { result ≡ letter_or_digit c }
 {
-    if is_capital_or_digit(c) {
-        return true;
-    }
-    is_between(b'a', b'z', c)
+    c.is_ascii_alphanumeric()
 }
 
-// A class of which a run may stand in a text.
-#[derive(Clone, Copy)]
-pub enum Class {
-    Digit,
-    CapitalOrDigit,
-    LetterOrDigit,
-}
-
-// A byte of the class.
-pub fn is_of(class: Class, c: u8) -> bool
-    ensures { result ≡ of class c }
-{
-    match class {
-        Class::Digit => is_digit(c),
-        Class::CapitalOrDigit => is_capital_or_digit(c),
-        Class::LetterOrDigit => is_letter_or_digit(c),
-    }
-}
-
-// The byte stands in the row. Every mark is looked at, so that the compiler makes a few comparisons of a row that it knows.
+// The byte stands in the row. Every mark is looked at, so that the compiler makes a few comparisons of a row that it knows: with `contains` a text of letters
+// takes half as long again.
 fn has(row: &[u8], c: u8) -> bool
     ensures { result ≡ has row.now c }
 {
     let mut found = false;
-    let mut i = 0;
-    while i < row.len() {
-        found = found | (c == row[i]);
-        i += 1;
+    for &mark in row {
+        found |= c == mark;
     }
     found
 }
@@ -99,38 +63,31 @@ pub fn is_letter(c: u8) -> bool
 
 // ─── runs of a class ───
 
-// Every byte is of the letter set.
+// Every byte is of the letter set. Each is looked at, whatever those before it are, so that the compiler takes many at once: with `all` a text takes four times as
+// long.
 pub fn all_letters(text: &[u8]) -> bool
     ensures { result ≡ all letter text.now }
 {
     let mut good = true;
-    let mut i = 0;
-    while i < text.len() {
-        good = good & is_letter(text[i]);
-        i += 1;
+    for &c in text {
+        good &= is_letter(c);
     }
     good
 }
 
-// How many bytes of a class stand at the front.
-pub fn run(class: Class, text: &[u8]) -> usize
-    ensures { result ≡ span (of class) text.now }
+// How many bytes at the front are in a class, which the closure tells.
+pub fn run<F: Fn(u8) -> bool>(text: &[u8], is_in: F) -> usize
+    requires { F.IsAlwaysCallable is_in }
+    ensures { (p : ℕ → Bool) → Tells (F.post is_in) p → result ≡ span p text.now }
 {
-    let mut i = 0;
-    while i < text.len() {
-        if !is_of(class, text[i]) {
-            return i;
-        }
-        i += 1;
-    }
-    i
+    text.iter().position(|&c| !is_in(c)).unwrap_or(text.len())
 }
 
 // How many digits stand at the front.
 pub fn digits(text: &[u8]) -> usize
     ensures { result ≡ span digit text.now }
 {
-    run(Class::Digit, text)
+    run(text, is_digit)
 }
 
 // A `/` at the beginning or at the end, or `//`.
@@ -139,16 +96,11 @@ pub fn is_slashed(text: &[u8]) -> bool
     ensures { result ≡ slashed text.now }
 {
     let mut before = b'/';
-    let mut i = 0;
-    while i < text.len() {
-        let c = text[i];
-        if c == b'/' {
-            if before == b'/' {
-                return true;
-            }
+    for &c in text {
+        if c == b'/' && before == b'/' {
+            return true;
         }
         before = c;
-        i += 1;
     }
     before == b'/'
 }
@@ -156,114 +108,72 @@ pub fn is_slashed(text: &[u8]) -> bool
 // ─── two runs held against each other ───
 
 // The same bytes.
+// Beside `==`, since its contract says `same`, and a call gives an array of bytes as it is.
 pub fn is_same(text: &[u8], word: &[u8]) -> bool
     ensures { result ≡ same text.now word.now }
 {
-    if text.len() != word.len() {
-        return false;
-    }
-    let mut i = 0;
-    while i < text.len() {
-        if text[i] != word[i] {
-            return false;
-        }
-        i += 1;
-    }
-    true
+    text == word
 }
 
 // A byte that the mark of a pattern stands for: D a digit, A a capital, N a capital or digit, every other mark itself.
 pub fn is_mark(p: u8, c: u8) -> bool
     ensures { result ≡ mark p c }
 {
-    if p == b'D' {
-        return is_digit(c);
+    match p {
+        b'D' => is_digit(c),
+        b'A' => is_capital(c),
+        b'N' => is_capital_or_digit(c),
+        _ => p == c,
     }
-    if p == b'A' {
-        return is_capital(c);
-    }
-    if p == b'N' {
-        return is_capital_or_digit(c);
-    }
-    p == c
 }
 
 // The text has the shape of the pattern.
 pub fn has_shape(text: &[u8], pattern: &[u8]) -> bool
     ensures { result ≡ fits pattern.now text.now }
 {
-    if text.len() != pattern.len() {
-        return false;
-    }
-    let mut i = 0;
-    while i < text.len() {
-        if !is_mark(pattern[i], text[i]) {
-            return false;
-        }
-        i += 1;
-    }
-    true
+    text.len() == pattern.len() && pattern.iter().zip(text).all(|(&p, &c)| is_mark(p, c))
 }
 
 // ─── numbers ───
 
-// A byte as a number.
-pub fn wide(c: u8) -> u64
-    ensures { (result ≡ c) × (result < 256) }
-{
-    c as u64
-}
-
-// A byte as an index.
-pub fn index(c: u8) -> usize
-    ensures { (result ≡ c) × (result < 256) }
-{
-    c as usize
-}
-
 // The number that at most 15 digits spell.
+// `parse` reads a `&str` and answers a Result: of bytes that are known to be digits it is no plainer.
 pub fn number(text: &[u8]) -> u64
     requires { (length text.now ≤ 15) × (all digit text.now ≡ true) }
     ensures { result ≡ value text.now }
 {
     let mut v: u64 = 0;
-    let mut i = 0;
-    while i < text.len() {
-        v = v * 10 + (wide(text[i]) - 48);
-        i += 1;
+    for &c in text {
+        v = v * 10 + u64::from(c - b'0');
     }
     v
 }
 
 // A letter as 10 to 35, a digit as itself.
+// `to_digit(36)` reads a char and answers an Option: with both conversions around it, it is no plainer.
 pub fn letter_number(c: u8) -> u64
     requires { letter_or_digit c ≡ true }
     ensures { result ≡ letter_value c }
 {
-    if is_digit(c) {
-        return wide(c) - 48;
-    }
-    if is_capital(c) {
-        return wide(c) - 55;
-    }
-    wide(c) - 87
+    u64::from(match c {
+        b'0'..=b'9' => c - b'0',
+        b'A'..=b'Z' => c - b'A' + 10,
+        _ => c - b'a' + 10,
+    })
 }
 
 // The number so far followed by a text of at most eight letters and digits.
+// What is asked of a text, here and of `remainder`, is asked of a part of one: a type would be made of each part anew.
 fn spelled(left: u64, text: &[u8]) -> u64
     requires { (left < 97) × ((length text.now ≤ 8) × (all letter_or_digit text.now ≡ true)) }
     ensures { result ≡ spelled_from left text.now }
 {
     let mut v = left;
-    let mut i = 0;
-    while i < text.len() {
-        let c = text[i];
-        if is_digit(c) {
-            v = v * 10 + (wide(c) - 48);
-        } else {
-            v = v * 100 + letter_number(c);
-        }
-        i += 1;
+    for &c in text {
+        v = match c {
+            b'0'..=b'9' => v * 10 + u64::from(c - b'0'),
+            _ => v * 100 + letter_number(c),
+        };
     }
     v
 }
@@ -274,10 +184,8 @@ pub fn remainder(left: u64, text: &[u8]) -> u64
     ensures { result ≡ spelled_from left text.now % 97 }
 {
     let mut v = left;
-    let mut i = 0;
-    while 8 < text.len() - i {
-        v = spelled(v, &text[i..i + 8]) % 97;
-        i += 8;
+    for eight in text.chunks(8) {
+        v = spelled(v, eight) % 97;
     }
-    spelled(v, &text[i..]) % 97
+    v
 }

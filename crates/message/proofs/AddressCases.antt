@@ -8,11 +8,11 @@ use mathlib.Core.Bool.{Bool, true, false, ◌&&◌}
 use mathlib.Core.List.{List, [], ◌∷◌, ◌++◌}
 use mathlib.Core.Path.{◌≡◌, refl}
 use lib.Dec.{T, eqb}
+use Rattle.std.specs.Prelude.{Ok}
 use Rattle.laws.specs.Bytes.{Bytes}
 use Rattle.laws.specs.Lists.{count, put_if}
 use Rattle.laws.proofs.Below.{each}
 use Rattle.profile.specs.Refusals.{Fault, fault}
-use Rattle.text.specs.declared.Judged.TheVariants.{Good}
 use Rattle.tree.specs.Reader.{kids}
 use Rattle.tree.specs.Parts as part
 use Rattle.tree.proofs.Example.{printed}
@@ -24,7 +24,7 @@ use Rattle.message.proofs.Cases.{told_as, edit, Case, right}
 
 -- an element of the part p at the place n, whose text states k
 abbrev element : ℕ → ℕ → ℕ → Told
-element p n k = record { part = p; place = n; start = n; length = 0; judged = Good k }
+element p n k = record { part = p; place = n; start = n; length = 0; judged = Ok k }
 
 -- which parts stand in an address, and whether it is good on 2026-11-14, and on 2026-11-15
 pub record Mix : Type 0 where
@@ -137,7 +137,7 @@ cases =
     ∷ case (edit (in_debtor "<PstlAdr><TwnNm>Leeds</TwnNm></PstlAdr>") 383 1 "3") 59 1191
     ∷ record { message = in_debtor "<PstlAdr><TwnNm>Leeds</TwnNm></PstlAdr>"; slips = 0; rows = 0; number = 59; place = 1191 }
     ∷ case (edit (in_debtor "<PstlAdr></PstlAdr>") 594 0 "<PstlAdr><TwnNm>A</TwnNm></PstlAdr>") 59 594
-    -- 2: `<pstl_adr>` against `</Cdtr>`, and against `</Dbtr>`; `<Ctry>` against `<AdrLine>` and `</pstl_adr>`
+    -- 2: `<PstlAdr>` against `</Cdtr>`, and against `</Dbtr>`; `<Ctry>` against `<AdrLine>` and `</PstlAdr>`
     ∷ case (in_creditor "<PstlAdx>") 2 601
     ∷ case (in_debtor "<X>") 2 1192
     ∷ case (in_creditor "<PstlAdr><Ctx>") 2 606

@@ -11,10 +11,10 @@ use mathlib.Core.List.{List, [], ◌∷◌, ◌++◌}
 use mathlib.Core.Path.{◌≡◌, refl}
 use lib.Dec.{T, eqb}
 use lib.ListN.{take, drop}
+use Rattle.std.specs.Prelude.{Ok}
 use Rattle.laws.specs.Bytes.{Bytes, ascii}
 use Rattle.laws.proofs.Below.{each}
 use Rattle.profile.specs.Refusals.{Fault, fault}
-use Rattle.text.specs.declared.Judged.TheVariants.{Good}
 use Rattle.tree.specs.Reader.{kids, read, Res, Res.done, Res.stuck}
 use Rattle.tree.specs.Pain008.{document, declaration}
 use Rattle.tree.specs.Parts as part
@@ -113,7 +113,7 @@ cases-right = tt
 
 -- an element of the part p at the place n
 abbrev element : ℕ → ℕ → Told
-element p n = record { part = p; place = n; start = n + 1; length = 0; judged = Good 0 }
+element p n = record { part = p; place = n; start = n + 1; length = 0; judged = Ok 0 }
 
 -- n elements of the part p, at the places from k on
 abbrev elements_from : ℕ → ℕ → ℕ → List Told

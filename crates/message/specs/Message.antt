@@ -6,13 +6,12 @@
 --   Transaction, Batch         what is said of each; transaction_of, batch_of: from the events of its part
 --   batches_of ts               the batches of a message, in order
 --   exact_count b, exact_sum b   a batch's number of transactions, and their cents
-use Rattle.std.specs.Prelude.{ℕ, Bool, List, map, length, take, drop}
+use Rattle.std.specs.Prelude.{ℕ, Bool, List, map, length, take, drop, Ok}
 use Rattle.std.proofs.Math.Option.{Option, none, some}
 use Rattle.laws.specs.Bytes.{Bytes}
 use Rattle.laws.specs.Lists.{total}
 use Rattle.laws.specs.Sections as sections
-use Rattle.text.specs.declared.Judged.{Judged}
-use Rattle.text.specs.declared.Judged.TheVariants.{Good}
+use Rattle.text.specs.Rules.{Judged}
 use Rattle.text.specs.Rules as rules
 use Rattle.tree.specs.declared.Kind.{Kind}
 use Rattle.tree.specs.declared.Kind.TheVariants.{Holds, Text}
@@ -26,7 +25,7 @@ abbrev pub text_of : Bytes → Event → Bytes
 text_of s e = take e.length (drop e.start s)
 
 abbrev pub judged_as : Kind → Bytes → Judged
-judged_as Holds x = Good 0
+judged_as Holds x = Ok 0
 judged_as (Text r) x = rules.judged r x
 
 abbrev pub told : Bytes → Event → Told

@@ -3,14 +3,13 @@
 --   stages r ts      the stages in order, each its first fault or none: the papers' number, and the place
 --   verdict_of r ts   the fault of the first stage that finds one, else the message's batches, transactions and cents
 --   slips_of, rows_of  the numbers that the two tables get
-use Rattle.std.specs.Prelude.{ℕ, zero, suc, ◌+◌, ◌*◌, Bool, true, false, List, [], ◌∷◌, ◌++◌, map, eqb, leb, length}
+use Rattle.std.specs.Prelude.{ℕ, zero, suc, ◌+◌, ◌*◌, Bool, true, false, List, [], ◌∷◌, ◌++◌, map, eqb, leb, length, Err, Ok}
 use Rattle.std.proofs.Math.Option.{Option, none, some}
 use Rattle.laws.specs.Lists.{total, gather}
 use Rattle.profile.specs.Limits.{most_batches, most_transactions}
 use Rattle.profile.specs.Refusals.{Fault, fault, flaw_number}
 use Rattle.profile.specs.declared.Totals.{Totals}
-use Rattle.text.specs.declared.Judged.{Judged}
-use Rattle.text.specs.declared.Judged.TheVariants.{Good, Bad}
+use Rattle.text.specs.Rules.{Judged}
 use Rattle.tree.specs.Parts as part
 use Rattle.message.specs.declared.Told.{Told}
 use Rattle.message.specs.Addresses.{Party, parties_of, mix_of}
@@ -47,8 +46,8 @@ place_after (suc k) (t ∷ ts) = place_after k ts
 
 -- 51 to 58: a text that breaks its rule, by its flaw
 abbrev pub broken : Judged → ℕ → Option Fault
-broken (Good n) p = none
-broken (Bad f) p = some (fault (flaw_number f) p)
+broken (Ok n) p = none
+broken (Err f) p = some (fault (flaw_number f) p)
 
 -- the first such text, at its start
 abbrev pub first_broken : List Told → Option Fault
@@ -65,7 +64,7 @@ abbrev pub unless_at : Bool → Option ℕ → Option ℕ
 unless_at true o = none
 unless_at false o = o
 
--- 59: where the mix of a party's address is bad, the `<` of its pstl_adr
+-- 59: where the mix of a party's address is bad, the `<` of its PstlAdr
 abbrev pub mix_fault : Party → Option Fault
 mix_fault x = at 59 (unless_at (mix_of x) (place_in (the part.address x.said)))
 

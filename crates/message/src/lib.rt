@@ -5,16 +5,17 @@
 ghost use Rattle.std.specs.Prelude.{◌≡◌};
 ghost use Rattle.message.specs.Addresses.{good_mix};
 
-use text::Judged;
+use profile::Flaw;
 
 // An event with what its text is judged. White space between elements is judged good.
 #[derive(Clone, Copy)]
 pub struct Told {
+    // A number, as in `tree::Event`.
     pub part: usize,
     pub place: usize,
     pub start: usize,
     pub length: usize,
-    pub judged: Judged,
+    pub judged: Result<u64, Flaw>,
 }
 
 // Which of the parts stand in a postal address: a street, a number or a post code; a town; a country; a line.
@@ -37,15 +38,6 @@ impl Address {
         if self.town {
             return self.country;
         }
-        if self.detail {
-            return false;
-        }
-        if !early {
-            return false;
-        }
-        if self.line {
-            return true;
-        }
-        self.country
+        early && !self.detail && (self.line || self.country)
     }
 }

@@ -1,4 +1,4 @@
-// The ranks of all bytes and the tree of a direct debit message as a table. tools/plan prints it.
+// The ranks of all bytes and the tree of a direct debit message as a table. tools/plan prints it, and `plan` says why it is bytes.
 #![tactic(auto)]
 
 ghost use Rattle.std.specs.Prelude.{T};

@@ -1,16 +1,14 @@
 -- THE TEXTS OF A LINE: where they stand, and how long they are, the length being one byte of the line.
 --   byte_small                a byte that two digits stand for is at most 255
 --   text-short                a text is at most 255 bytes long
---   text-has                  a line that has a text holds the frame that is named
---   text-told                 the part that is answered is the text's
 --   text-within, text-is      the part of a text is within the line, and its digits stand for the text
---   text-none, text-some      the text is empty exactly where its part is
+--   text-size                 there are two digits for each byte of it
 use Prim.Native.Nat.{ℕ, zero, suc, ◌+◌, ◌-◌, ◌*◌, ◌<◌, ◌≤◌}
 use native.Mathlib.Omega.{arith}
 use mathlib.Core.Bool.{true}
 use mathlib.Core.List.{List, [], ◌∷◌}
 use mathlib.Core.Path.{◌≡◌, ap}
-use lib.ListN.{length, take, drop, get_or, length-take}
+use lib.ListN.{length, take, drop, get_or, length-take, length-drop}
 use Rattle.laws.specs.Bytes.{Bytes}
 use Rattle.laws.specs.Lists.{All}
 use Rattle.laws.proofs.Counts.{All-drop}
@@ -21,7 +19,7 @@ use Rattle.frames.specs.declared.Frame.{Frame}
 use Rattle.frames.specs.declared.TextPart.{TextPart}
 use Rattle.frames.proofs.Digits.{value-under}
 use Rattle.frames.proofs.Parts.{part-within, part-text}
-use Rattle.pieces.specs.Texts.{line_text, Has}
+use Rattle.pieces.specs.Texts.{line_text}
 
 pub byte_small : (s : Bytes) → All (λ b. b ≤ 255) (unhex s)
 byte_small [] = tt
@@ -45,26 +43,21 @@ text-short n i line =
 
 -- ─── where a text stands, as a function answers it ───
 
-pub text-has : {f : Frame} (n i : ℕ) (s : Bytes) → f ≡ frame_of n → Has n i s → (framed f s ≡ true) × (i < f.texts)
-text-has n i s e h = rw e (h.is, h.there)
-
 module _ (n i : ℕ) (line : Bytes) (p : TextPart) (f : Frame) (e : f ≡ frame_of n) (q : p ≡ part_of f i (unhex line)) where
-  pub text-told : p ≡ part_of (frame_of n) i (unhex line)
-  text-told = rw (← e) q
-
-  pub text-within : Has n i (unhex line) → p.start + p.length ≤ length line
-  text-within h = rw text-told (part-within (frame_of n) line h.is i h.there)
-
-  pub text-is : Has n i (unhex line) → unhex (take (p.start + p.length - p.start) (drop p.start line)) ≡ line_text n i (unhex line)
-  text-is h =
-      let a : p.start + p.length - p.start ≡ p.length = omega arith in
-      rw (a, text-told) (part-text (frame_of n) line h.is i h.there)
+  told : p ≡ part_of (frame_of n) i (unhex line)
+  told = rw (← e) q
 
   size : p.length ≡ length (line_text n i (unhex line)) * 2
-  size = ap (λ (x : TextPart). x.length) text-told
+  size = ap (λ (x : TextPart). x.length) told
 
-  pub text-none : p.length ≡ 0 → length (line_text n i (unhex line)) ≡ 0
-  text-none z = omega (arith, size)
+  module _ (h : framed (frame_of n) (unhex line) ≡ true) (l : i < (frame_of n).texts) where
+    pub text-within : p.start + p.length ≤ length line
+    text-within = rw told (part-within (frame_of n) line h i l)
 
-  pub text-some : (p.length ≡ 0 → ⊥) → 0 < length (line_text n i (unhex line))
-  text-some z = omega (arith, size)
+    pub text-is : unhex (take (p.start + p.length - p.start) (drop p.start line)) ≡ line_text n i (unhex line)
+    text-is =
+        let a : p.start + p.length - p.start ≡ p.length = omega arith in
+        rw (a, told) (part-text (frame_of n) line h i l)
+
+    pub text-size : length (take (p.start + p.length - p.start) (drop p.start line)) ≡ length (unhex (take (p.start + p.length - p.start) (drop p.start line))) * 2
+    text-size = omega (arith, size, ap length text-is, length-take (p.start + p.length - p.start) (drop p.start line), length-drop p.start line, text-within)

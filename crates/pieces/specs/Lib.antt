@@ -1,2 +1,2 @@
--- Texts   the texts of a line by their number, and the words of a row of words
+-- Texts   the texts of a line by their number
 pub mod Texts

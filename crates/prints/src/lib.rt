@@ -1,26 +1,20 @@
-// Printed words and numbers, and a refusal as a line.
+// A refused list as it is printed.
 #![tactic(auto)]
 
-use std::io;
+use profile::ListRefusal;
+use std::fmt;
 
-pub fn print(rt: &impl Print, text: &[u8]) -> io::Result<()> {
-    rt.write_all(text)
-}
+// `NO`, number and place, and the field of a value, which is not 0.
+#[derive(Drop)]
+pub struct Refused(pub ListRefusal);
 
-// A number, after a space.
-pub fn print_number(rt: &impl Print, n: u64) -> io::Result<()> {
-    print!(rt; " {n}")
-}
-
-// `NO`, number, place.
-pub fn print_refused(rt: &impl Print, number: u64, place: u64) -> io::Result<()> {
-    println!(rt; "NO {number} {place}")
-}
-
-// `NO`, number, place, and the field of a value, which is not 0.
-pub fn print_list_refused(rt: &impl Print, number: u64, place: u64, field: u64) -> io::Result<()> {
-    if field == 0 {
-        return print_refused(rt, number, place);
+impl fmt::Display for Refused {
+    fn fmt<W: fmt::Write>(&self, f: &mut fmt::Formatter<W>) -> fmt::Result {
+        let refusal = self.0;
+        write!(f, "NO {} {}", refusal.number(), refusal.place())?;
+        match refusal.field() {
+            0 => Ok(()),
+            field => write!(f, " {field}"),
+        }
     }
-    println!(rt; "NO {number} {place} {field}")
 }

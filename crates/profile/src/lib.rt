@@ -12,35 +12,27 @@ pub mod refusals;
 // ─── the quantities ───
 
 // A number of transactions. It never stands where cents are meant.
-#[derive(Clone, Copy)]
+#[derive(Clone, Copy, Debug, PartialEq, Eq)]
 pub struct NumberOfTransactions(pub u64);
 
 // A sum of cents.
-#[derive(Clone, Copy)]
+#[derive(Clone, Copy, Debug, PartialEq, Eq)]
 pub struct ControlSum(pub u64);
 
-// What a batch or the header declares of its count: nothing, or a number.
-#[derive(Clone, Copy)]
-pub enum DeclaredCount {
-    Absent,
-    Count(NumberOfTransactions),
-}
-
-// What a batch or the header declares of its sum: nothing, or a number of cents. A declared 0 is not the same as none.
-#[derive(Clone, Copy)]
+// What a batch or the header declares of its sum: nothing, or a number of cents. A declared 0 is not the same as none. An enum of its own, and no Option as of a count: the
+// customer asks for this form by name.
+#[derive(Clone, Copy, Debug, PartialEq, Eq)]
 pub enum DeclaredSum {
     Absent,
     Cents(ControlSum),
 }
 
 // True where a count is declared and is not `count`.
-pub fn count_differs(declared: DeclaredCount, count: NumberOfTransactions) -> bool
+// No generic function with `sum_differs`: what is declared of a sum is an enum of its own.
+pub fn count_differs(declared: Option<NumberOfTransactions>, count: NumberOfTransactions) -> bool
     ensures { result ≡ count_differs declared count }
 {
-    match declared {
-        DeclaredCount::Absent => false,
-        DeclaredCount::Count(d) => d.0 != count.0,
-    }
+    declared.is_some_and(|d| d != count)
 }
 
 // True where a sum is declared and is not `sum`.
@@ -49,7 +41,7 @@ pub fn sum_differs(declared: DeclaredSum, sum: ControlSum) -> bool
 {
     match declared {
         DeclaredSum::Absent => false,
-        DeclaredSum::Cents(d) => d.0 != sum.0,
+        DeclaredSum::Cents(d) => d != sum,
     }
 }
 
@@ -60,11 +52,11 @@ pub fn sum_differs(declared: DeclaredSum, sum: ControlSum) -> bool
 pub struct Batch {
     pub count: NumberOfTransactions,
     pub sum: ControlSum,
-    pub declared_count: DeclaredCount,
+    pub declared_count: Option<NumberOfTransactions>,
     pub declared_sum: DeclaredSum,
 }
 
-// Where its numbers stand in its row of the batch table.
+// Where its numbers stand in its row of the batch table: places and no fields, since C programs read the row by them (include/desk.h).
 impl Batch {
     // The number of transactions before it.
     pub const BEFORE: usize = 0;
@@ -87,22 +79,8 @@ impl Batch {
     pub const TERMS: usize = 7;
 }
 
-// Where the numbers of a transaction stand in its slip.
-#[derive(Clone, Copy)]
-pub struct Slip(pub usize);
-
-impl Slip {
-    // Its batch, from 1.
-    pub const BATCH: usize = 0;
-
-    pub const CENTS: usize = 1;
-
-    // From here on start and length of each text.
-    pub const TEXTS: usize = 2;
-}
-
 // What an accepted message answers: its batches, transactions and cents.
-#[derive(Clone, Copy)]
+#[derive(Clone, Copy, Debug, PartialEq, Eq)]
 pub struct Totals {
     pub batches: u64,
     pub transactions: NumberOfTransactions,
@@ -138,14 +116,10 @@ impl Tally {
         requires { (self.count.0 + 1 < 2 ^ 64) × (self.sum.0 + cents.0 < 2 ^ 64) }
         ensures { result ≡ with_transaction self cents }
     {
-        let transactions = self.transactions;
-        let before = self.cents;
         Tally {
-            batches: self.batches,
-            transactions,
-            cents: before,
             count: NumberOfTransactions(self.count.0 + 1),
             sum: ControlSum(self.sum.0 + cents.0),
+            ..self
         }
     }
 
@@ -158,8 +132,7 @@ impl Tally {
             batches: self.batches,
             transactions: NumberOfTransactions(self.transactions.0 + self.count.0),
             cents: ControlSum(self.cents.0 + self.sum.0),
-            count: NumberOfTransactions(0),
-            sum: ControlSum(0),
+            ..Tally::fresh()
         }
     }
 
@@ -168,16 +141,9 @@ impl Tally {
         requires { self.batches + 1 < 2 ^ 64 }
         ensures { result ≡ begun self }
     {
-        let transactions = self.transactions;
-        let cents = self.cents;
-        let count = self.count;
-        let sum = self.sum;
         Tally {
             batches: self.batches + 1,
-            transactions,
-            cents,
-            count,
-            sum,
+            ..self
         }
     }
 
@@ -185,12 +151,10 @@ impl Tally {
     pub fn hand_back(self) -> Totals
         ensures { result ≡ totals self }
     {
-        let transactions = self.transactions;
-        let cents = self.cents;
         Totals {
             batches: self.batches,
-            transactions,
-            cents,
+            transactions: self.transactions,
+            cents: self.cents,
         }
     }
 }
@@ -266,28 +230,29 @@ impl Profile {
     pub fn fresh() -> Self
         ensures { result.tally ≡ fresh_tally }
     {
-        let tally = Tally::fresh();
-        Profile { tally }
+        Profile {
+            tally: Tally::fresh(),
+        }
     }
 }
 
 // ─── the refusals ───
 
-// The kind of rule that a text breaks.
-#[derive(Clone, Copy)]
+// The kind of rule that a text breaks, with the number of its refusal.
+#[derive(Clone, Copy, Debug, PartialEq, Eq)]
 pub enum Flaw {
-    Length,
-    Letter,
-    Slash,
-    Number,
-    Date,
-    Code,
-    Shape,
-    CheckDigits,
+    Length = 51,
+    Letter = 52,
+    Slash = 53,
+    Number = 54,
+    Date = 55,
+    Code = 56,
+    Shape = 57,
+    CheckDigits = 58,
 }
 
 // Why a message is refused, with the place that the case has.
-#[derive(Clone, Copy)]
+#[derive(Clone, Copy, Debug, PartialEq, Eq)]
 pub enum Refusal {
     TooLong,
     NotOfTheForm(usize),
@@ -304,7 +269,7 @@ pub enum Refusal {
 }
 
 // Why a day list is refused, with the place that the case has; of a value its flaw, its line and its field.
-#[derive(Clone, Copy)]
+#[derive(Clone, Copy, Debug, PartialEq, Eq)]
 pub enum ListRefusal {
     TooLong,
     Ceiling,

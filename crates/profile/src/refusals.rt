@@ -1,7 +1,7 @@
 // The papers' number, place and field of each refusal.
 ghost use Rattle.std.specs.Prelude.{◌≡◌};
-ghost use Rattle.profile.specs.Refusals.{flaw_number, number_of, place_of, list_number_of, list_place_of, list_field_of};
 ghost use Rattle.profile.specs.Flaws.{flaw_of};
+ghost use Rattle.profile.specs.Refusals.{flaw_number, number_of, place_of, list_number_of, list_place_of, list_field_of};
 
 use crate::{Flaw, ListRefusal, Profile, Refusal};
 
@@ -10,22 +10,16 @@ impl Flaw {
     pub fn number(self) -> u64
         ensures { result ≡ flaw_number self }
     {
-        match self {
-            Flaw::Length => 51,
-            Flaw::Letter => 52,
-            Flaw::Slash => 53,
-            Flaw::Number => 54,
-            Flaw::Date => 55,
-            Flaw::Code => 56,
-            Flaw::Shape => 57,
-            Flaw::CheckDigits => 58,
-        }
+        self as u64
     }
+}
 
-    // The flaw of this number; the check digits for any number that no flaw has.
-    pub fn of_number(n: u64) -> Self
-        ensures { result ≡ flaw_of n }
-    {
+// The flaw of a number; the check digits for any number that no flaw has. So it was promised of each number (docs/DECISIONS.md, 66), and it is no TryFrom. No code here
+// reads a number back.
+impl From<u64> for Flaw {
+    ghost from_gives = { λ n f. f ≡ flaw_of n };
+
+    fn from(n: u64) -> Self {
         match n {
             51 => Flaw::Length,
             52 => Flaw::Letter,
@@ -66,17 +60,17 @@ impl Refusal {
     {
         match self {
             Refusal::TooLong => Profile::BYTES,
-            Refusal::NotOfTheForm(p) => p,
-            Refusal::TooManyBatches(p) => p,
-            Refusal::TooManyTransactions(p) => p,
-            Refusal::Text(_, p) => p,
-            Refusal::AddressMix(p) => p,
-            Refusal::BatchCount(p) => p,
-            Refusal::BatchSum(p) => p,
-            Refusal::MessageCount(p) => p,
-            Refusal::MessageSum(p) => p,
-            Refusal::SlipsTooShort(n) => n,
-            Refusal::BatchesTooShort(n) => n,
+            Refusal::NotOfTheForm(p)
+            | Refusal::TooManyBatches(p)
+            | Refusal::TooManyTransactions(p)
+            | Refusal::Text(_, p)
+            | Refusal::AddressMix(p)
+            | Refusal::BatchCount(p)
+            | Refusal::BatchSum(p)
+            | Refusal::MessageCount(p)
+            | Refusal::MessageSum(p)
+            | Refusal::SlipsTooShort(p)
+            | Refusal::BatchesTooShort(p) => p,
         }
     }
 }
@@ -106,30 +100,23 @@ impl ListRefusal {
         ensures { result ≡ list_place_of self }
     {
         match self {
-            ListRefusal::TooLong => 0,
-            ListRefusal::Ceiling => 0,
-            ListRefusal::NotAFrame(line) => line,
-            ListRefusal::NoCollection(lines) => lines,
+            ListRefusal::TooLong | ListRefusal::Ceiling => 0,
             ListRefusal::TooManyCollections => ListRefusal::FIRST_TOO_MANY,
-            ListRefusal::Value(_, line, _) => line,
-            ListRefusal::TooManyBatches(needed) => needed,
-            ListRefusal::OutputTooShort(needed) => needed,
+            ListRefusal::NotAFrame(n)
+            | ListRefusal::NoCollection(n)
+            | ListRefusal::Value(_, n, _)
+            | ListRefusal::TooManyBatches(n)
+            | ListRefusal::OutputTooShort(n) => n,
         }
     }
 
-    // The field of a value in its line, from 1; 0 where it is no value.
+    // The field of a value in its line, from 1; 0 where it is no value, as `struct desk_written` of include/desk.h has it, and so no Option.
     pub fn field(self) -> usize
         ensures { result ≡ list_field_of self }
     {
         match self {
-            ListRefusal::TooLong => 0,
-            ListRefusal::Ceiling => 0,
-            ListRefusal::NotAFrame(_) => 0,
-            ListRefusal::NoCollection(_) => 0,
-            ListRefusal::TooManyCollections => 0,
             ListRefusal::Value(_, _, field) => field,
-            ListRefusal::TooManyBatches(_) => 0,
-            ListRefusal::OutputTooShort(_) => 0,
+            _ => 0,
         }
     }
 }

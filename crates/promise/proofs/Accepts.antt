@@ -1,4 +1,5 @@
 -- WITH TABLES LONG ENOUGH, THE STAGES ACCEPT exactly where what the message says is in the profile and every declaration agrees.
+--   room_yes                     a table with room
 --   first-none, none_first       the first of a list is none exactly where all are
 --   at_none, at_is_none, after-within, within-after   a stage finds nothing: of the limits, exactly where they are kept
 --   mix-none, good-mix           an address is good exactly where 59 finds nothing in it
@@ -12,23 +13,25 @@ use mathlib.Core.Bool.{Bool, true, false, not, ◌||◌}
 use mathlib.Core.List.{List, [], ◌∷◌, map}
 use mathlib.Core.Option.{Option, none, some}
 use mathlib.Core.Path.{◌≡◌, refl, ap, sym}
-use borrow.Author.Tests.{eq-eqb, eqb-true, leb-true}
-use lib.Dec.{T, eqb}
+use borrow.Author.Tests.{eq-eqb, eqb-true, le-leb, leb-true}
+use lib.Dec.{T, eqb, leb}
 use lib.ListN.{length}
+use Rattle.std.specs.Prelude.{Err, Ok}
 use Rattle.laws.specs.Lists.{total, All}
 use Rattle.profile.specs.Limits.{most_batches, most_transactions}
 use Rattle.profile.specs.Refusals.{Fault}
 use Rattle.profile.specs.declared.Totals.{Totals}
-use Rattle.text.specs.declared.Judged.{Judged}
-use Rattle.text.specs.declared.Judged.TheVariants.{Good, Bad}
-use Rattle.text.specs.Rules.{good}
+use Rattle.text.specs.Rules.{Judged, good}
 use Rattle.tree.specs.Parts as part
 use Rattle.message.specs.declared.Told.{Told}
 use Rattle.message.specs.Message.{Batch, all_of, the, batches_of, worth, exact_count, exact_sum}
 use Rattle.message.specs.Addresses.{here, Party, parties_of, mix_of, good_address}
 use Rattle.message.specs.Verdict.{Room, accepted, verdict, at, first, or_else, unless, place_after, broken, first_broken, place_in, unless_at, mix_fault, differs, batch_fault, stages, totals_of, verdict_of}
-use Rattle.answer.proofs.Answers.{room_yes}
 use Rattle.promise.specs.Demand2.{Agrees, AllAgree, InProfile, Enough}
+
+-- a table with room
+room_yes : (n a room : ℕ) → a ≤ room → none ≡ at n (unless (leb a room) a)
+room_yes n a room h = rw (le-leb a room h) refl
 
 -- ─── none found ───
 
@@ -73,12 +76,12 @@ within-after zero (t ∷ ts) h = absurd (not-suc-le-zero h)
 within-after (suc k) (t ∷ ts) h = within-after k ts (le_of_suc-le-suc h)
 
 unbroken : (j : Judged) (p : ℕ) → broken j p ≡ none → T (good j)
-unbroken (Good n) p e = tt
-unbroken (Bad f) p e = absurd (let z : ◌≡◌ {A = ℕ} 0 1 = cc in omega arith)
+unbroken (Ok n) p e = tt
+unbroken (Err f) p e = absurd (let z : ◌≡◌ {A = ℕ} 0 1 = cc in omega arith)
 
 good-unbroken : (j : Judged) (p : ℕ) → T (good j) → broken j p ≡ none
-good-unbroken (Good n) p t = refl
-good-unbroken (Bad f) p t = absurd t
+good-unbroken (Ok n) p t = refl
+good-unbroken (Err f) p t = absurd t
 
 pub none-broken : (ts : List Told) → first_broken ts ≡ none → All (λ t. T (good t.judged)) ts
 none-broken [] e = tt

@@ -12,6 +12,7 @@ use mathlib.Core.List.{List, [], ◌∷◌, map}
 use mathlib.Core.Option.{Option, none, some}
 use mathlib.Core.Path.{◌≡◌, refl, sym, subst, ◌∙◌}
 use mathlib.Core.Logic.{◌⊎◌, inl, inr, ◌↔◌}
+use Rattle.std.specs.Prelude.{Err, Ok}
 use Rattle.laws.specs.Bytes.{Bytes}
 use lib.Dec.{leb}
 use lib.ListN.{length, drop}
@@ -22,8 +23,7 @@ use Rattle.profile.specs.Numbers.{Between, BeforeTotals, CheckNumber}
 use Rattle.profile.specs.declared.Flaw.{Flaw}
 use Rattle.profile.proofs.Faults.{flaw-number}
 use Rattle.profile.specs.declared.Totals.{Totals}
-use Rattle.text.specs.declared.Judged.{Judged}
-use Rattle.text.specs.declared.Judged.TheVariants.{Good, Bad}
+use Rattle.text.specs.Rules.{Judged}
 use Rattle.tree.specs.Form.{Message}
 use Rattle.tree.specs.Pain008.{document}
 use Rattle.tree.specs.Parts as part
@@ -65,8 +65,8 @@ module _ (N : ℕ → Type 0) where
   broken_among (t ∷ ts) a = or_among (broken t.judged t.start) (first_broken ts) (go t.judged) (broken_among ts a)
     where
       go : (j : Judged) → Among N (broken j t.start)
-      go (Good n) = none_among
-      go (Bad f) = some_among (fault (flaw_number f) t.start) (a f)
+      go (Ok n) = none_among
+      go (Err f) = some_among (fault (flaw_number f) t.start) (a f)
 
   pub parties_among : (xs : List Party) → N 59 → Among N (first (map mix_fault xs))
   parties_among [] a = none_among

@@ -7,6 +7,7 @@ use native.Mathlib.Omega.{arith}
 use mathlib.Core.List.{List}
 use mathlib.Core.Path.{◌≡◌, ap, sym, ◌∙◌}
 use mathlib.Core.Logic.{◌⊎◌, inl, inr}
+use Rattle.std.specs.Prelude.{Err, Ok}
 use Rattle.laws.specs.Bytes.{Bytes}
 use Rattle.profile.specs.Refusals.{Fault, fault}
 use Rattle.profile.proofs.Faults.{fault-once}
@@ -17,9 +18,7 @@ use Rattle.tree.proofs.Pain008.{unambiguous, place-one}
 use Rattle.message.specs.declared.Told.{Told}
 use Rattle.message.specs.Message.{tell}
 use Rattle.message.specs.Verdict.{Verdict, Verdict.refused, verdict_of, slips_of, rows_of}
-use Rattle.answer.specs.declared.Checked.{Checked}
-use Rattle.answer.specs.declared.Checked.TheVariants.{Accepted, Refused}
-use Rattle.answer.specs.Said.{said}
+use Rattle.answer.specs.Said.{Checked, said}
 use Rattle.promise.specs.Check.{said_by, room_of, table_after, Long, OutOfForm, ByStages, Checks}
 
 -- two messages of the same bytes say the same
@@ -28,10 +27,10 @@ same-said m n s p q =
     ap (λ (b : Bytes). tell b (message_events declaration m)) (p ∙ sym q) ∙ ap (λ (es : List Event). tell (message declaration n) es) (unambiguous m n (p ∙ sym q))
 
 pub said-once : (r r₂ : Checked) → said r ≡ said r₂ → r ≡ r₂
-said-once (Accepted t) (Accepted u) e = cc
-said-once (Accepted t) (Refused f) e = absurd (let z : ◌≡◌ {A = ℕ} 0 1 = cc in omega arith)
-said-once (Refused f) (Accepted u) e = absurd (let z : ◌≡◌ {A = ℕ} 0 1 = cc in omega arith)
-said-once (Refused f) (Refused g) e = ap Refused (fault-once f g (cc))
+said-once (Ok t) (Ok u) e = cc
+said-once (Ok t) (Err f) e = absurd (let z : ◌≡◌ {A = ℕ} 0 1 = cc in omega arith)
+said-once (Err f) (Ok u) e = absurd (let z : ◌≡◌ {A = ℕ} 0 1 = cc in omega arith)
+said-once (Err f) (Err g) e = ap Err (fault-once f g (cc))
 
 module _ (s : Bytes) (slips rows : List ℕ) (v v₂ : Verdict) (a b a₂ b₂ : List ℕ) where
   -- the verdicts and both tables are the same

@@ -9,6 +9,7 @@ use mathlib.Core.Path.{◌≡◌, refl, ap, subst, ◌∙◌}
 use mathlib.Core.Logic.{◌↔◌}
 use lib.Dec.{T}
 use lib.ListN.{length}
+use Rattle.std.specs.Prelude.{Err, Ok}
 use Rattle.laws.specs.Bytes.{Bytes}
 use Rattle.laws.specs.Lists.{All}
 use Rattle.laws.proofs.Counts.{here-not, later-not}
@@ -16,9 +17,7 @@ use Rattle.profile.specs.Limits.{most_batches, most_transactions}
 use Rattle.profile.specs.Refusals.{Fault, fault, flaw_number}
 use Rattle.profile.specs.declared.Flaw.{Flaw}
 use Rattle.profile.proofs.Faults.{flaw-number, flaw-once}
-use Rattle.text.specs.declared.Judged.{Judged}
-use Rattle.text.specs.declared.Judged.TheVariants.{Good, Bad}
-use Rattle.text.specs.Rules.{good}
+use Rattle.text.specs.Rules.{Judged, good}
 use Rattle.tree.specs.Form.{Message}
 use Rattle.tree.specs.Pain008.{document}
 use Rattle.tree.specs.Parts as part
@@ -41,13 +40,13 @@ broken-first [] x f e d = absurd (let z : ◌≡◌ {A = ℕ} 0 1 = cc in omega 
 broken-first (t ∷ ts) x f e d = go t.judged refl e (λ r. broken-first ts x f r d)
   where
     go : (j : Judged) → t.judged ≡ j → or_else (broken j t.start) (first_broken ts) ≡ some x → (first_broken ts ≡ some x → BreaksAt ts f x.place) → BreaksAt (t ∷ ts) f x.place
-    go (Good n) g e r = let b = r e in record { text = b.text; first = later-not Fine t b.text ts (rw g tt) b.first; flaw = b.flaw; start = b.start }
-    go (Bad h) g e r =
+    go (Ok n) g e r = let b = r e in record { text = b.text; first = later-not Fine t b.text ts (rw g tt) b.first; flaw = b.flaw; start = b.start }
+    go (Err h) g e r =
         let y : fault (flaw_number h) t.start ≡ x = cc in
         record {
           text = t;
           first = here-not Fine t ts (λ k. rw g at k);
-          flaw = g ∙ ap Bad (flaw-once h f (ap (λ (z : Fault). z.number) y ∙ d));
+          flaw = g ∙ ap Err (flaw-once h f (ap (λ (z : Fault). z.number) y ∙ d));
           start = ap (λ (z : Fault). z.place) y;
         }
 
@@ -55,8 +54,8 @@ pub first-broken : (ts : List Told) (f : Flaw) (p : ℕ) → BreaksAt ts f p →
 first-broken ts f p b = ap first_broken b.first.whole ∙ go b.first.before b.first.held
   where
     step : (i : Judged) (q : ℕ) (rest : Option Fault) → T (good i) → or_else (broken i q) rest ≡ rest
-    step (Good m) q rest t = refl
-    step (Bad f) q rest t = absurd t
+    step (Ok m) q rest t = refl
+    step (Err f) q rest t = absurd t
 
     go : (us : List Told) → All Fine us → first_broken (us ++ b.text ∷ b.first.after) ≡ some (fault (flaw_number f) p)
     go [] h = rw (b.flaw, b.start) refl

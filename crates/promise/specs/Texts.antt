@@ -1,12 +1,11 @@
 -- WHERE A TEXT BREAKS ITS RULE, in the words of document 01, which numbers it 5, and of request 1. To be believed; definitions only.
 --   BreaksAt ts f p      "a text breaks its rule", at the "start of the first such text", by the flaw f
 --   TextBreaks s m f p   the message s, read as m, meets no refusal before that, and a text of it breaks its rule at p, by the flaw f
-use Rattle.std.specs.Prelude.{ℕ, ◌≤◌, List, ◌≡◌, T, length}
+use Rattle.std.specs.Prelude.{ℕ, ◌≤◌, List, ◌≡◌, T, length, Err}
 use Rattle.laws.specs.Bytes.{Bytes}
 use Rattle.laws.specs.Lists.{FirstNot}
 use Rattle.profile.specs.Limits.{most_bytes, most_batches, most_transactions}
 use Rattle.profile.specs.declared.Flaw.{Flaw}
-use Rattle.text.specs.declared.Judged.TheVariants.{Bad}
 use Rattle.text.specs.Rules.{good}
 use Rattle.tree.specs.Form.{Message, message}
 use Rattle.tree.specs.Pain008.{document, declaration}
@@ -19,7 +18,7 @@ use Rattle.promise.specs.Check.{said_by}
 pub record BreaksAt (ts : List Told) (f : Flaw) (p : ℕ) : Type 0 where
   pub text : Told
   pub first : FirstNot (λ t. T (good t.judged)) ts text
-  pub flaw : text.judged ≡ Bad f
+  pub flaw : text.judged ≡ Err f
   pub start : text.start ≡ p
 
 pub record TextBreaks (s : Bytes) (m : Message document) (f : Flaw) (p : ℕ) : Type 0 where

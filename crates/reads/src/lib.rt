@@ -1,4 +1,4 @@
-// Input into a buffer that the caller lends.
+// Input into a buffer that the caller lends, and the arguments of a program.
 #![tactic(auto)]
 
 ghost use Rattle.std.specs.Prelude.{IfOk, IfSome, length, take, ◌≤◌, ◌<◌};
@@ -6,10 +6,11 @@ ghost use Rattle.std.specs.Io.{ReadsAtMost};
 ghost use Rattle.std.specs.Io.KnownBytes.{Consumes, IsAtEnd};
 
 use std::io::Read;
-use std::rt::Files;
+use std::rt::{Env, Files};
 use std::{fs, io};
 
 // Reads until the buffer is full or the input ends, and returns how many bytes it put at the start of the buffer.
+// A `while`: each turn goes on by as much as was read.
 pub fn read_full<R: Read>(input: &mut R, buf: &mut [u8]) -> io::Result<usize>
     ensures bound { ReadsAtMost result buf.new }
     ensures bytes { IfOk result (λ n. Consumes (R.remaining input.old) (R.remaining input.new) (take n buf.new)) }
@@ -46,4 +47,25 @@ pub fn read_file(
             Ok(None)
         }
     }
+}
+
+// Gives the arguments to `take` in order, `most` of them at most, until it answers false. They are bytes, and need be no texts, which std's `args` asks; one of more
+// than 4,096 bytes ends them.
+pub fn take_arguments<F: FnMut(&[u8]) -> io::Result<bool>>(
+    rt: &impl Env,
+    most: usize,
+    mut take: F,
+) -> io::Result<()>
+    requires { F.IsAlwaysCallable take }
+{
+    for i in 0..most {
+        let mut argument = [0u8; 4096];
+        let Ok(n) = rt.arg(i + 1, &mut argument) else {
+            return Ok(());
+        };
+        if !take(&argument[..n])? {
+            return Ok(());
+        }
+    }
+    Ok(())
 }

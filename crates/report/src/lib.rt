@@ -3,74 +3,52 @@
 
 ghost use Rattle.std.specs.Prelude.{◌≡◌, length};
 
-use answer::Checked;
-use prints::{print, print_number, print_refused};
-use profile::{Batch, Profile, Refusal, Totals};
+use profile::{Batch, Profile, Totals};
 use std::io;
 
 // What is declared, or `-` where it is absent.
+// A mark and a number beside it, and no Option: both are numbers of the row, which C programs read too.
 fn print_declared(rt: &impl Print, mark: u64, n: u64) -> io::Result<()> {
     if mark == 0 {
-        print(rt, b" -")
+        print!(rt; " -")
     } else {
-        print_number(rt, n)
+        print!(rt; " {n}")
     }
 }
 
-// The batch `k` from its row.
-fn print_batch(rt: &impl Print, k: u64, row: &[u64]) -> io::Result<()>
+// The batch of this number from its row.
+fn print_batch(rt: &impl Print, number: u64, row: &[u64]) -> io::Result<()>
     requires { length row.now ≡ 8 }
 {
-    print(rt, b"B")?;
-    print_number(rt, k)?;
-    print_number(rt, row[Batch::COUNT])?;
-    print_number(rt, row[Batch::CENTS])?;
+    print!(rt; "B {number} {} {}", row[Batch::COUNT], row[Batch::CENTS])?;
     print_declared(rt, row[Batch::HAS_COUNT], row[Batch::DECLARED_COUNT])?;
     print_declared(rt, row[Batch::HAS_SUM], row[Batch::DECLARED_SUM])?;
-    print(rt, b"\n")
+    println!(rt; "")
 }
 
-// The batches of the table, one line each.
-fn print_batches(rt: &impl Print, batches: u64, rows: &[u64]) -> io::Result<()> {
-    let mut k = 0;
-    let mut at = 0;
-    while k < batches {
-        if rows.len() - at < Profile::ROW {
-            return Ok(());
-        }
-        k += 1;
-        print_batch(rt, k, &rows[at..at + Profile::ROW])?;
-        at += Profile::ROW;
+// The totals, and the batches of the table, one line each.
+fn print_accepted(rt: &impl Print, totals: Totals, rows: &[u64]) -> io::Result<()> {
+    println!(rt;
+        "OK {} {} {}",
+        totals.batches, totals.transactions.0, totals.cents.0
+    )?;
+    for (row, number) in rows.chunks_exact(Profile::ROW).zip(1..=totals.batches) {
+        print_batch(rt, number, row)?;
     }
     Ok(())
 }
 
-fn print_refusal(rt: &impl Print, refusal: Refusal) -> io::Result<()> {
-    print_refused(rt, refusal.number(), refusal.place() as u64)
-}
-
-fn print_totals(rt: &impl Print, totals: Totals) -> io::Result<()> {
-    print(rt, b"OK")?;
-    print_number(rt, totals.batches)?;
-    print_number(rt, totals.transactions.0)?;
-    print_number(rt, totals.cents.0)?;
-    print(rt, b"\n")
-}
-
 // The check of a message with these tables.
+// A refusal of a message has no field, so it is a line of its own here, and no `prints::Refused`.
 pub fn print_checked(
     rt: &impl Print,
     message: &[u8],
     slips: &mut [u64],
     rows: &mut [u64],
 ) -> io::Result<()> {
-    let checked = checking::check(message, slips, rows);
-    match checked {
-        Checked::Refused(refusal) => print_refusal(rt, refusal),
-        Checked::Accepted(totals) => {
-            print_totals(rt, totals)?;
-            print_batches(rt, totals.batches, rows)
-        }
+    match checking::check(message, slips, rows) {
+        Ok(totals) => print_accepted(rt, totals, rows),
+        Err(refusal) => println!(rt; "NO {} {}", refusal.number(), refusal.place()),
     }
 }
 

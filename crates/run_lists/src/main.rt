@@ -3,41 +3,27 @@
 //   OK collections batches  and, for each batch in order, a line `B`: its number from 1, and its collections, counted from 1 in the list
 #![tactic(auto)]
 
-ghost use Rattle.std.specs.Prelude.{◌≡◌, ◌+◌, length};
-ghost use Rattle.daylist.specs.declared.JudgedList.TheVariants.{Good};
+ghost use Rattle.std.specs.Prelude.{◌≡◌, ◌+◌, length, Ok};
 ghost use Rattle.daylist.specs.Stages.{judged_list};
 
-use daylist::JudgedList;
-use prints::{print, print_list_refused, print_number};
-use profile::{ListRefusal, Profile};
-use reads::read_file;
+use prints::Refused;
+use profile::Profile;
+use reads::{read_file, take_arguments};
 use std::io;
-use std::rt::{Env, Files};
+use std::rt::Files;
 
 // ─── a list ───
 
-// The collections with a label, counted from 1.
-fn print_labelled(rt: &impl Print, label: u64, labels: &[u64]) -> io::Result<()> {
-    let mut i = 0;
-    while i < labels.len() {
-        if labels[i] == label {
-            print_number(rt, i as u64 + 1)?;
-        }
-        i += 1;
-    }
-    Ok(())
-}
-
-// The batches, one line each. Their labels count from 0.
+// The batches, one line each. Their labels count from 0, and so do the collections, which are printed from 1.
 fn print_batches(rt: &impl Print, batches: u64, labels: &[u64]) -> io::Result<()> {
-    let mut k = 0;
-    while k < batches {
-        let label = k;
-        k += 1;
-        print(rt, b"B")?;
-        print_number(rt, k)?;
-        print_labelled(rt, label, labels)?;
-        print(rt, b"\n")?;
+    for batch in 0..batches {
+        print!(rt; "B {}", batch + 1)?;
+        for (i, &label) in labels.iter().enumerate() {
+            if label == batch {
+                print!(rt; " {}", i + 1)?;
+            }
+        }
+        println!(rt; "")?;
     }
     Ok(())
 }
@@ -50,19 +36,16 @@ fn print_labels(
     table: &mut [usize],
     labels: &mut [u64],
 ) -> io::Result<()>
-    requires ceiling_value { judged_list list.now ceiling ≡ Good (length labels.old) }
+    requires ceiling_value { judged_list list.now ceiling ≡ Ok (length labels.old) }
     requires table_len { length table.old ≡ length labels.old + 1 }
 {
     let batches = collections::label(list, ceiling, table, labels);
-    print(rt, b"OK")?;
-    print_number(rt, labels.len() as u64)?;
-    print_number(rt, batches)?;
-    print(rt, b"\n")?;
+    println!(rt; "OK {} {batches}", labels.len())?;
     print_batches(rt, batches, labels)
 }
 
 fn print_good(rt: &impl Print, list: &[u8], ceiling: u64, collections: usize) -> io::Result<()>
-    requires { judged_list list.now ceiling ≡ Good collections }
+    requires { judged_list list.now ceiling ≡ Ok collections }
 {
     let mut table = [0usize; Profile::LINES];
     let mut labels = [0u64; Profile::COLLECTIONS];
@@ -76,25 +59,17 @@ fn print_good(rt: &impl Print, list: &[u8], ceiling: u64, collections: usize) ->
     )
 }
 
-fn print_refusal(rt: &impl Print, refusal: ListRefusal) -> io::Result<()> {
-    print_list_refused(
-        rt,
-        refusal.number(),
-        refusal.place() as u64,
-        refusal.field() as u64,
-    )
-}
-
 fn print_list(rt: &impl Print, list: &[u8], ceiling: u64) -> io::Result<()> {
     match daylist::judge_list(list, ceiling) {
-        JudgedList::Good(collections) => print_good(rt, list, ceiling, collections),
-        JudgedList::Refused(refusal) => print_refusal(rt, refusal),
+        Ok(collections) => print_good(rt, list, ceiling, collections),
+        Err(refusal) => println!(rt; "{}", Refused(refusal)),
     }
 }
 
 // ─── the arguments ───
 
 // The file at a path; false where there is none.
+// `run_messages` has the like: another buffer, and another thing printed of a file.
 fn print_file(rt: &(impl Files + Print + Eprint), path: &[u8], ceiling: u64) -> io::Result<bool> {
     let mut list = [0u8; 65536];
     let Some(n) = read_file(rt, path, &mut list)? else {
@@ -106,39 +81,18 @@ fn print_file(rt: &(impl Files + Print + Eprint), path: &[u8], ceiling: u64) -> 
 
 // The ceiling and the name of an argument; false where it is not `CEILING:NAME`, or no file has the name.
 fn print_word(rt: &(impl Files + Print + Eprint), word: &[u8]) -> io::Result<bool> {
-    let digits = marks::digits(word);
-    if 15 < digits {
+    let (ceiling, rest) = word.split_at(marks::digits(word));
+    let [b':', name @ ..] = rest else {
+        return Ok(false);
+    };
+    if 15 < ceiling.len() {
         return Ok(false);
     }
-    if word.len() <= digits {
-        return Ok(false);
-    }
-    if word[digits] != b':' {
-        return Ok(false);
-    }
-    let ceiling = marks::number(&word[..digits]);
-    let name = digits + 1;
-    print(rt, word)?;
-    print(rt, b": ")?;
-    print_file(rt, &word[name..], ceiling)
-}
-
-// The argument at an index; false where there is none.
-fn print_argument(rt: &(impl Env + Files + Print + Eprint), i: usize) -> io::Result<bool> {
-    let mut word = [0u8; 4096];
-    match rt.arg(i, &mut word) {
-        Ok(n) => print_word(rt, &word[..n]),
-        Err(_) => Ok(false),
-    }
+    rt.write_all(word)?;
+    print!(rt; ": ")?;
+    print_file(rt, name, marks::number(ceiling))
 }
 
 fn main(rt: HostRuntime) -> io::Result<()> {
-    let mut i = 1;
-    while i < 200 {
-        if !print_argument(&rt, i)? {
-            return Ok(());
-        }
-        i += 1;
-    }
-    Ok(())
+    take_arguments(&rt, 199, |word| print_word(&rt, word))
 }

@@ -8,15 +8,14 @@ use std::io;
 
 // The numbers of a table, in one line.
 fn print_table(rt: &impl Print, table: &[u64]) -> io::Result<()> {
-    let mut i = 0;
-    while i < table.len() {
-        prints::print_number(rt, table[i])?;
-        i += 1;
+    for n in table {
+        print!(rt; " {n}")?;
     }
-    prints::print(rt, b"\n")
+    println!(rt; "")
 }
 
 // The check with so many numbers of each table lent.
+// The rooms go beside the whole tables, since these are printed whole afterwards.
 fn print_lent(
     rt: &impl Print,
     message: &[u8],
@@ -25,18 +24,13 @@ fn print_lent(
     rows: &mut [u64],
     rows_room: usize,
 ) -> io::Result<()> {
-    if slips.len() < slips_room {
+    let (Some(lent_slips), Some(lent_rows)) = (
+        slips.get_mut(..slips_room),
+        rows.get_mut(..rows_room),
+    ) else {
         return Ok(());
-    }
-    if rows.len() < rows_room {
-        return Ok(());
-    }
-    report::print_checked(
-        rt,
-        message,
-        &mut slips[..slips_room],
-        &mut rows[..rows_room],
-    )?;
+    };
+    report::print_checked(rt, message, lent_slips, lent_rows)?;
     print_table(rt, slips)?;
     print_table(rt, rows)
 }

@@ -4,18 +4,15 @@
 --   cases      ★1 TO ★12, each under its number
 --   asked      the cases that document 02 names, each under its request
 --   Stars      THE CLAIM: each case holds
-use Rattle.std.specs.Prelude.{ℕ, Bool, true, false, not, ◌&&◌, List, [], ◌∷◌, ◌++◌, map, T, eqb, ltb}
+use Rattle.std.specs.Prelude.{ℕ, Bool, true, false, not, ◌&&◌, List, [], ◌∷◌, ◌++◌, map, T, eqb, ltb, Err, Ok}
 use Prim.Native.String.{String}
 use Rattle.laws.specs.Bytes.{Bytes, ascii, same}
 use Rattle.laws.specs.Lists.{All, number}
 use Rattle.profile.specs.Refusals.{list_number_of, list_place_of, list_field_of}
-use Rattle.text.specs.declared.Judged.{Judged}
-use Rattle.text.specs.Rules.{good, leaves, without_business_code, iban, amount, sum, date, identifier, bic, creditor_identifier}
+use Rattle.text.specs.Rules.{Judged, good, leaves, without_business_code, iban, amount, sum, date, identifier, bic, creditor_identifier}
 use Rattle.tree.specs.Form.{NotOfForm}
 use Rattle.tree.specs.Pain008.{document, declaration}
-use Rattle.daylist.specs.declared.JudgedList.{JudgedList}
-use Rattle.daylist.specs.declared.JudgedList.TheVariants.{Good, Refused}
-use Rattle.daylist.specs.Stages.{judged_list}
+use Rattle.daylist.specs.Stages.{JudgedList, judged_list}
 use Rattle.message.specs.declared.Address.{Address}
 use Rattle.message.specs.Addresses.{unstructured_ends, good_mix}
 use Rattle.bundle.specs.Bundle.{bundle}
@@ -46,8 +43,8 @@ alike (x ∷ xs) (y ∷ ys) = same x y && alike xs ys
 
 -- number, line and field of a list's refusal; nothing where it is good
 abbrev pub refusal : JudgedList → List ℕ
-refusal (Good n) = []
-refusal (Refused r) = list_number_of r ∷ list_place_of r ∷ list_field_of r ∷ []
+refusal (Ok n) = []
+refusal (Err r) = list_number_of r ∷ list_place_of r ∷ list_field_of r ∷ []
 
 -- a list of a creditor and one collection, whose cents are these digits
 abbrev pub with_cents : String → List ℕ
@@ -60,7 +57,7 @@ with_cents cents =
     ++ (ascii "16474232394E57424B36303136313333313932363831390A46616374757265204E31" ++ (10 ∷ []))))))))
     500)
 
--- an empty pstl_adr
+-- an empty PstlAdr
 abbrev pub empty_address : Address
 empty_address = record { detail = false; town = false; country = false; line = false }
 

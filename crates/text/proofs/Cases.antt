@@ -11,15 +11,14 @@ use mathlib.Core.List.{List, [], ◌∷◌, map}
 use mathlib.Core.Path.{◌≡◌, refl}
 use lib.Dec.{T, eqb}
 use lib.ListN.{length, replicate}
+use Rattle.std.specs.Prelude.{Err, Ok}
 use Rattle.laws.specs.Bytes.{ascii, between, has}
 use Rattle.laws.proofs.Below.{every}
 use Rattle.marks.specs.Marks.{letters}
 use Rattle.profile.specs.declared.Flaw.TheVariants.{Length, Letter, Slash, Number, Date, Code, Shape, CheckDigits}
-use Rattle.text.specs.declared.Judged.{Judged}
-use Rattle.text.specs.declared.Judged.TheVariants.{Good, Bad}
 use Rattle.text.specs.declared.Rule.{Rule}
 use Rattle.text.specs.declared.Rule.TheVariants.{Identifier, Name, Remittance, Count, Sum, Amount, Date as Day, Time, Iban, Bic, CreditorIdentifier, Method, Booking, Sepa, Scheme, Sequence, Charges, NotProvided, AddressLine, AddressCode, Town, Country}
-use Rattle.text.specs.Rules.{good, leaves, without_business_code, judged}
+use Rattle.text.specs.Rules.{Judged, good, leaves, without_business_code, judged}
 
 infix 10 ◌judges◌
 abbrev ◌judges◌ : Rule → List (String × Judged) → Type 0
@@ -34,78 +33,78 @@ pub letter-set :
 letter-set = (tt, refl)
 
 pub lengths :
-    (judged Identifier (replicate 35 65) ≡ Good 0) × (judged Identifier (replicate 36 65) ≡ Bad Length)
-    × (judged Name (replicate 70 32) ≡ Good 0) × (judged Name (replicate 71 32) ≡ Bad Length) × (judged Name (95 ∷ replicate 70 32) ≡ Bad Length)
-    × (judged Remittance (replicate 140 47) ≡ Good 0) × (judged Remittance (replicate 141 47) ≡ Bad Length)
-    × (judged Identifier [] ≡ Bad Length) × (judged Name [] ≡ Bad Length) × (judged Remittance [] ≡ Bad Length)
+    (judged Identifier (replicate 35 65) ≡ Ok 0) × (judged Identifier (replicate 36 65) ≡ Err Length)
+    × (judged Name (replicate 70 32) ≡ Ok 0) × (judged Name (replicate 71 32) ≡ Err Length) × (judged Name (95 ∷ replicate 70 32) ≡ Err Length)
+    × (judged Remittance (replicate 140 47) ≡ Ok 0) × (judged Remittance (replicate 141 47) ≡ Err Length)
+    × (judged Identifier [] ≡ Err Length) × (judged Name [] ≡ Err Length) × (judged Remittance [] ≡ Err Length)
 lengths = (refl, refl, refl, refl, refl, refl, refl, refl, refl, refl)
 
 -- the flaws in order: length, letters, slashes
 pub identifiers : Identifier judges (
-    ("A/B", Good 0) ∷ (" ", Good 0) ∷ ("/A", Bad Slash) ∷ ("A/", Bad Slash) ∷ ("A//B", Bad Slash) ∷ ("/", Bad Slash)
-    ∷ ("/A_", Bad Letter) ∷ ("/23456789_123456789_123456789_12345", Bad Letter) ∷ ("_23456789_123456789_123456789_12345/", Bad Length)
+    ("A/B", Ok 0) ∷ (" ", Ok 0) ∷ ("/A", Err Slash) ∷ ("A/", Err Slash) ∷ ("A//B", Err Slash) ∷ ("/", Err Slash)
+    ∷ ("/A_", Err Letter) ∷ ("/23456789_123456789_123456789_12345", Err Letter) ∷ ("_23456789_123456789_123456789_12345/", Err Length)
     ∷ [])
 identifiers = refl
 
 pub address-lengths :
-    (judged AddressLine (replicate 70 47) ≡ Good 0) × (judged AddressLine (replicate 71 65) ≡ Bad Length)
-    × (judged AddressCode (replicate 16 47) ≡ Good 0) × (judged AddressCode (replicate 17 65) ≡ Bad Length)
-    × (judged Town (replicate 35 47) ≡ Good 0) × (judged Town (replicate 36 65) ≡ Bad Length)
-    × (judged AddressLine [] ≡ Bad Length) × (judged AddressCode [] ≡ Bad Length) × (judged Town [] ≡ Bad Length)
+    (judged AddressLine (replicate 70 47) ≡ Ok 0) × (judged AddressLine (replicate 71 65) ≡ Err Length)
+    × (judged AddressCode (replicate 16 47) ≡ Ok 0) × (judged AddressCode (replicate 17 65) ≡ Err Length)
+    × (judged Town (replicate 35 47) ≡ Ok 0) × (judged Town (replicate 36 65) ≡ Err Length)
+    × (judged AddressLine [] ≡ Err Length) × (judged AddressCode [] ≡ Err Length) × (judged Town [] ≡ Err Length)
 address-lengths = (refl, refl, refl, refl, refl, refl, refl, refl, refl)
 
 pub address-letters :
-    (AddressLine judges (("12/3 Rue d'Aire", Good 0) ∷ ("//", Good 0) ∷ ("a_b", Bad Letter) ∷ []))
-    × (AddressCode judges (("SW1A 2AA", Good 0) ∷ ("7/9", Good 0) ∷ ("1&2", Bad Letter) ∷ ("12345678901234567", Bad Length) ∷ []))
-    × (Town judges (("Geneva", Good 0) ∷ ("Gen;ve", Bad Letter) ∷ []))
+    (AddressLine judges (("12/3 Rue d'Aire", Ok 0) ∷ ("//", Ok 0) ∷ ("a_b", Err Letter) ∷ []))
+    × (AddressCode judges (("SW1A 2AA", Ok 0) ∷ ("7/9", Ok 0) ∷ ("1&2", Err Letter) ∷ ("12345678901234567", Err Length) ∷ []))
+    × (Town judges (("Geneva", Ok 0) ∷ ("Gen;ve", Err Letter) ∷ []))
 address-letters = (refl, refl, refl)
 
 pub countries : Country judges (
-    ("CH", Good 0) ∷ ("AZ", Good 0) ∷ ("ch", Bad Shape) ∷ ("Ch", Bad Shape) ∷ ("C1", Bad Shape) ∷ ("C", Bad Shape) ∷ ("CHE", Bad Shape) ∷ ("", Bad Shape) ∷ (" CH", Bad Shape)
+    ("CH", Ok 0) ∷ ("AZ", Ok 0) ∷ ("ch", Err Shape) ∷ ("Ch", Err Shape) ∷ ("C1", Err Shape) ∷ ("C", Err Shape) ∷ ("CHE", Err Shape) ∷ ("", Err Shape) ∷ (" CH", Err Shape)
     ∷ [])
 countries = refl
 
 -- ─── numbers ───
 
 pub counts : Count judges (
-    ("0", Good 0) ∷ ("007", Good 7) ∷ ("999999999999999", Good 999_999_999_999_999) ∷ ("0000000000000007", Bad Number)
-    ∷ ("", Bad Number) ∷ ("1.0", Bad Number) ∷ ("+1", Bad Number)
+    ("0", Ok 0) ∷ ("007", Ok 7) ∷ ("999999999999999", Ok 999_999_999_999_999) ∷ ("0000000000000007", Err Number)
+    ∷ ("", Err Number) ∷ ("1.0", Err Number) ∷ ("+1", Err Number)
     ∷ [])
 counts = refl
 
 pub sums : Sum judges (
-    ("0", Good 0) ∷ ("0.5", Good 50) ∷ ("3280", Good 328_000) ∷ ("3280.0", Good 328_000) ∷ ("3280.00", Good 328_000) ∷ ("0003280.00", Good 328_000)
-    ∷ ("999999999999999.99", Good 99_999_999_999_999_999) ∷ ("1000000000000000", Bad Number) ∷ ("0000000000000001.00", Bad Number)
-    ∷ ("", Bad Number) ∷ ("1.", Bad Number) ∷ (".5", Bad Number) ∷ ("3250.150", Bad Number) ∷ ("1,50", Bad Number) ∷ ("-1", Bad Number)
+    ("0", Ok 0) ∷ ("0.5", Ok 50) ∷ ("3280", Ok 328_000) ∷ ("3280.0", Ok 328_000) ∷ ("3280.00", Ok 328_000) ∷ ("0003280.00", Ok 328_000)
+    ∷ ("999999999999999.99", Ok 99_999_999_999_999_999) ∷ ("1000000000000000", Err Number) ∷ ("0000000000000001.00", Err Number)
+    ∷ ("", Err Number) ∷ ("1.", Err Number) ∷ (".5", Err Number) ∷ ("3250.150", Err Number) ∷ ("1,50", Err Number) ∷ ("-1", Err Number)
     ∷ [])
 sums = refl
 
 pub amounts : Amount judges (
-    ("0", Bad Number) ∷ ("0.00", Bad Number) ∷ ("0.01", Good 1) ∷ ("0.5", Good 50) ∷ ("3280", Good 328_000)
-    ∷ ("999999999.99", Good 99_999_999_999) ∷ ("1000000000", Bad Number) ∷ ("000000001", Good 100) ∷ ("0000000001", Bad Number)
-    ∷ ("", Bad Number) ∷ ("1.", Bad Number) ∷ (".5", Bad Number) ∷ ("1.005", Bad Number)
+    ("0", Err Number) ∷ ("0.00", Err Number) ∷ ("0.01", Ok 1) ∷ ("0.5", Ok 50) ∷ ("3280", Ok 328_000)
+    ∷ ("999999999.99", Ok 99_999_999_999) ∷ ("1000000000", Err Number) ∷ ("000000001", Ok 100) ∷ ("0000000001", Err Number)
+    ∷ ("", Err Number) ∷ ("1.", Err Number) ∷ (".5", Err Number) ∷ ("1.005", Err Number)
     ∷ [])
 amounts = refl
 
 -- ─── dates ───
 
 pub dates : Day judges (
-    ("1899-12-31", Bad Date) ∷ ("1900-01-01", Good 19_000_101) ∷ ("2099-12-31", Good 20_991_231) ∷ ("2100-01-01", Bad Date)
+    ("1899-12-31", Err Date) ∷ ("1900-01-01", Ok 19_000_101) ∷ ("2099-12-31", Ok 20_991_231) ∷ ("2100-01-01", Err Date)
     -- 29 February
-    ∷ ("1900-02-28", Good 19_000_228) ∷ ("1900-02-29", Bad Date) ∷ ("2000-02-29", Good 20_000_229) ∷ ("2023-02-29", Bad Date)
-    ∷ ("2024-02-29", Good 20_240_229) ∷ ("2024-02-30", Bad Date)
+    ∷ ("1900-02-28", Ok 19_000_228) ∷ ("1900-02-29", Err Date) ∷ ("2000-02-29", Ok 20_000_229) ∷ ("2023-02-29", Err Date)
+    ∷ ("2024-02-29", Ok 20_240_229) ∷ ("2024-02-30", Err Date)
     -- months and their ends
-    ∷ ("2026-00-10", Bad Date) ∷ ("2026-13-10", Bad Date) ∷ ("2026-01-00", Bad Date) ∷ ("2026-01-31", Good 20_260_131) ∷ ("2026-01-32", Bad Date)
-    ∷ ("2026-04-30", Good 20_260_430) ∷ ("2026-04-31", Bad Date) ∷ ("2026-06-31", Bad Date) ∷ ("2026-09-31", Bad Date) ∷ ("2026-11-31", Bad Date)
+    ∷ ("2026-00-10", Err Date) ∷ ("2026-13-10", Err Date) ∷ ("2026-01-00", Err Date) ∷ ("2026-01-31", Ok 20_260_131) ∷ ("2026-01-32", Err Date)
+    ∷ ("2026-04-30", Ok 20_260_430) ∷ ("2026-04-31", Err Date) ∷ ("2026-06-31", Err Date) ∷ ("2026-09-31", Err Date) ∷ ("2026-11-31", Err Date)
     -- shapes
-    ∷ ("", Bad Date) ∷ ("2026-2-01", Bad Date) ∷ ("20260201", Bad Date) ∷ ("2026/02/01", Bad Date) ∷ ("2026-02-01Z", Bad Date)
+    ∷ ("", Err Date) ∷ ("2026-2-01", Err Date) ∷ ("20260201", Err Date) ∷ ("2026/02/01", Err Date) ∷ ("2026-02-01Z", Err Date)
     ∷ [])
 dates = refl
 
 pub times : Time judges (
-    ("2026-11-02T00:00:00", Good 0) ∷ ("2026-11-02T23:59:59", Good 0)
-    ∷ ("2026-11-02T24:00:00", Bad Date) ∷ ("2026-11-02T23:60:00", Bad Date) ∷ ("2026-11-02T23:59:60", Bad Date)
-    ∷ ("2026-11-31T09:30:00", Bad Date) ∷ ("2026-11-02T09:30:00Z", Bad Date) ∷ ("2026-11-02T09:30", Bad Date) ∷ ("2026-11-02 09:30:00", Bad Date)
+    ("2026-11-02T00:00:00", Ok 0) ∷ ("2026-11-02T23:59:59", Ok 0)
+    ∷ ("2026-11-02T24:00:00", Err Date) ∷ ("2026-11-02T23:60:00", Err Date) ∷ ("2026-11-02T23:59:60", Err Date)
+    ∷ ("2026-11-31T09:30:00", Err Date) ∷ ("2026-11-02T09:30:00Z", Err Date) ∷ ("2026-11-02T09:30", Err Date) ∷ ("2026-11-02 09:30:00", Err Date)
     ∷ [])
 times = refl
 
@@ -113,27 +112,27 @@ times = refl
 
 -- 5 to 34 bytes, the country in capitals, all else of either case
 pub ibans : Iban judges (
-    ("BE540", Good 0) ∷ ("BE54", Bad Shape) ∷ ("LC04ABCDEFGHIJKLMNOPQRSTUVWXYZ0123", Good 0) ∷ ("LC08ABCDEFGHIJKLMNOPQRSTUVWXYZ01234", Bad Shape)
-    ∷ ("GB29NWBK60161331926819", Good 0) ∷ ("GB29nwbk60161331926819", Good 0) ∷ ("gb29NWBK60161331926819", Bad Shape)
-    ∷ ("GB92NWBK60161331926819", Bad CheckDigits) ∷ ("BE550", Bad CheckDigits) ∷ ("GB29 NWBK60161331926819", Bad Shape) ∷ ("gb92NWBK60161331926819", Bad Shape) ∷ ("", Bad Shape)
+    ("BE540", Ok 0) ∷ ("BE54", Err Shape) ∷ ("LC04ABCDEFGHIJKLMNOPQRSTUVWXYZ0123", Ok 0) ∷ ("LC08ABCDEFGHIJKLMNOPQRSTUVWXYZ01234", Err Shape)
+    ∷ ("GB29NWBK60161331926819", Ok 0) ∷ ("GB29nwbk60161331926819", Ok 0) ∷ ("gb29NWBK60161331926819", Err Shape)
+    ∷ ("GB92NWBK60161331926819", Err CheckDigits) ∷ ("BE550", Err CheckDigits) ∷ ("GB29 NWBK60161331926819", Err Shape) ∷ ("gb92NWBK60161331926819", Err Shape) ∷ ("", Err Shape)
     ∷ [])
 ibans = refl
 
 pub bics : Bic judges (
-    ("BANKGB2L", Good 0) ∷ ("BANKGB2LXXX", Good 0) ∷ ("B4NKGB2L001", Good 0)
-    ∷ ("BANKGB2", Bad Shape) ∷ ("BANKGB2LX", Bad Shape) ∷ ("BANKGB2LXX", Bad Shape) ∷ ("BANKGB2LXXXX", Bad Shape)
-    ∷ ("BANKG82L", Bad Shape) ∷ ("bankGB2L", Bad Shape) ∷ ("NOTPROVIDED", Bad Shape) ∷ ("", Bad Shape)
+    ("BANKGB2L", Ok 0) ∷ ("BANKGB2LXXX", Ok 0) ∷ ("B4NKGB2L001", Ok 0)
+    ∷ ("BANKGB2", Err Shape) ∷ ("BANKGB2LX", Err Shape) ∷ ("BANKGB2LXX", Err Shape) ∷ ("BANKGB2LXXXX", Err Shape)
+    ∷ ("BANKG82L", Err Shape) ∷ ("bankGB2L", Err Shape) ∷ ("NOTPROVIDED", Err Shape) ∷ ("", Err Shape)
     ∷ [])
 bics = refl
 
 -- 8 to 35 bytes; whatever its business code; of a bad shape and bad check digits the shape
 pub creditor-identifiers : CreditorIdentifier judges (
-    ("BE16ZZZ", Bad Shape) ∷ ("BE16ZZZ5", Good 0) ∷ ("BE19ZZZ2345678901234567890123456789", Good 0) ∷ ("BE92ZZZ23456789012345678901234567890", Bad Shape)
-    ∷ ("BE16A075", Good 0) ∷ ("BE16ZZz5", Bad Shape) ∷ ("BE16ZZZd", Bad Shape) ∷ ("be16ZZZ5", Bad Shape) ∷ ("be17ZZZ5", Bad Shape) ∷ ("", Bad Shape)
+    ("BE16ZZZ", Err Shape) ∷ ("BE16ZZZ5", Ok 0) ∷ ("BE19ZZZ2345678901234567890123456789", Ok 0) ∷ ("BE92ZZZ23456789012345678901234567890", Err Shape)
+    ∷ ("BE16A075", Ok 0) ∷ ("BE16ZZz5", Err Shape) ∷ ("BE16ZZZd", Err Shape) ∷ ("be16ZZZ5", Err Shape) ∷ ("be17ZZZ5", Err Shape) ∷ ("", Err Shape)
     -- each leaves 1 in one way alone: the business code kept, the first four not moved
-    ∷ ("BE65ZZZ5", Bad CheckDigits) ∷ ("BE72ZZZ5", Bad CheckDigits)
+    ∷ ("BE65ZZZ5", Err CheckDigits) ∷ ("BE72ZZZ5", Err CheckDigits)
     -- 97 apart
-    ∷ ("BE00ZZZ2", Good 0) ∷ ("BE97ZZZ2", Good 0) ∷ ("BE02ZZZ63", Good 0) ∷ ("BE99ZZZ63", Good 0)
+    ∷ ("BE00ZZZ2", Ok 0) ∷ ("BE97ZZZ2", Ok 0) ∷ ("BE02ZZZ63", Ok 0) ∷ ("BE99ZZZ63", Ok 0)
     ∷ [])
 creditor-identifiers = refl
 
@@ -146,17 +145,17 @@ printed =
 
 pub printed-identifiers :
     (map (λ p. leaves (without_business_code (ascii p.0))) printed ≡ map (λ p. p.1) printed)
-    × CreditorIdentifier judges map (λ p. (p.0, elim (eqb p.1 1) [ true ↦ Good 0 | false ↦ Bad CheckDigits ])) printed
+    × CreditorIdentifier judges map (λ p. (p.0, elim (eqb p.1 1) [ true ↦ Ok 0 | false ↦ Err CheckDigits ])) printed
 printed-identifiers = (refl, refl)
 
 -- ─── codes: each states its place ───
 
 pub codes :
-    Method judges (("DD", Good 0) ∷ ("dd", Bad Code) ∷ ("D", Bad Code) ∷ ("DDD", Bad Code) ∷ ("", Bad Code) ∷ [])
-    × Booking judges (("true", Good 0) ∷ ("false", Good 1) ∷ ("1", Bad Code) ∷ [])
-    × Sepa judges (("SEPA", Good 0) ∷ ("SEP", Bad Code) ∷ [])
-    × Scheme judges (("CORE", Good 0) ∷ ("B2B", Good 1) ∷ ("core", Bad Code) ∷ ("COR1", Bad Code) ∷ [])
-    × Sequence judges (("FRST", Good 0) ∷ ("RCUR", Good 1) ∷ ("OOFF", Good 2) ∷ ("FNAL", Good 3) ∷ ("RPRE", Bad Code) ∷ [])
-    × Charges judges (("SLEV", Good 0) ∷ ("SHAR", Bad Code) ∷ [])
-    × NotProvided judges (("NOTPROVIDED", Good 0) ∷ ("NOTPROVIDEX", Bad Code) ∷ [])
+    Method judges (("DD", Ok 0) ∷ ("dd", Err Code) ∷ ("D", Err Code) ∷ ("DDD", Err Code) ∷ ("", Err Code) ∷ [])
+    × Booking judges (("true", Ok 0) ∷ ("false", Ok 1) ∷ ("1", Err Code) ∷ [])
+    × Sepa judges (("SEPA", Ok 0) ∷ ("SEP", Err Code) ∷ [])
+    × Scheme judges (("CORE", Ok 0) ∷ ("B2B", Ok 1) ∷ ("core", Err Code) ∷ ("COR1", Err Code) ∷ [])
+    × Sequence judges (("FRST", Ok 0) ∷ ("RCUR", Ok 1) ∷ ("OOFF", Ok 2) ∷ ("FNAL", Ok 3) ∷ ("RPRE", Err Code) ∷ [])
+    × Charges judges (("SLEV", Ok 0) ∷ ("SHAR", Err Code) ∷ [])
+    × NotProvided judges (("NOTPROVIDED", Ok 0) ∷ ("NOTPROVIDEX", Err Code) ∷ [])
 codes = (refl, refl, refl, refl, refl, refl, refl)

@@ -1,5 +1,5 @@
 -- THE TEXT RULES of document 01, section "Texts", in its order, with the check digits of request 2 and the texts of an address of request 3. To be believed; definitions only.
--- A rule judges a text: `Good n`, n being the number that the text states (0 where it states none), or `Bad` with the kind of the first test that fails.
+-- A rule judges a text: `Ok n`, n being the number that the text states (0 where it states none), or `Err` with the kind of the first test that fails.
 -- "For plain texts the tests go length in bytes, then letter set, then slashes; codes, numbers, dates and shapes have one test each, and the check digits follow the shape" (request 1).
 --   identifier, name, remittance         plain texts of the letter set
 --   address_line, address_code, town       those of an address
@@ -9,41 +9,43 @@
 --   leaves, without_business_code          what a number leaves on division by 97; what of a creditor identifier counts for it
 --   method .. not_provided                codes: each states its place, from 0, among the words listed
 --   judged r s                           the text s judged by the rule r
-use Rattle.std.specs.Prelude.{ℕ, suc, ◌+◌, ◌-◌, ◌*◌, ◌%◌, Bool, true, false, not, ◌&&◌, ◌||◌, List, [], ◌∷◌, ◌++◌, eqb, length, take, drop, get_or}
+use Rattle.std.specs.Prelude.{ℕ, suc, ◌+◌, ◌-◌, ◌*◌, ◌%◌, Bool, true, false, not, ◌&&◌, ◌||◌, List, [], ◌∷◌, ◌++◌, map, eqb, length, take, drop, get_or, Result, Ok, Err}
 use Prim.Native.String.{String}
 use Rattle.laws.specs.Bytes.{Bytes, ascii, between, all, span, same}
 use Rattle.marks.specs.Marks.{digit, capital_or_digit, letter_or_digit, letter, slashed, fits, value, spelled}
 use Rattle.profile.specs.Limits.{most_cents}
 use Rattle.profile.specs.declared.Flaw.{Flaw}
 use Rattle.profile.specs.declared.Flaw.TheVariants.{Length, Letter, Slash, Number, Date, Code, Shape, CheckDigits}
-use Rattle.text.specs.declared.Judged.{Judged}
-use Rattle.text.specs.declared.Judged.TheVariants.{Good, Bad}
 use Rattle.text.specs.declared.Rule.{Rule}
 use Rattle.text.specs.declared.Rule.TheVariants.{Identifier, Name, Remittance, Count, Sum, Amount, Date as Day, Time, Iban, Bic, CreditorIdentifier, Method, Booking, Sepa, Scheme, Sequence, Charges, NotProvided, AddressLine, AddressCode, Town, Country}
+
+-- what a text is judged: good, with the number that it states, or the kind of the first test that it fails
+abbrev pub Judged : Type 0
+Judged = Result ℕ Flaw
 
 -- a test: where it fails, the text has the flaw f
 abbrev pub must : Bool → Flaw → Judged → Judged
 must true f j = j
-must false f j = Bad f
+must false f j = Err f
 
 -- the text breaks no rule
 abbrev pub good : Judged → Bool
-good (Good n) = true
-good (Bad f) = false
+good (Ok n) = true
+good (Err f) = false
 
 -- what it states, 0 where it breaks its rule
 abbrev pub number_told : Judged → ℕ
-number_told (Good n) = n
-number_told (Bad f) = 0
+number_told (Ok n) = n
+number_told (Err f) = 0
 
 -- ─── plain texts ───
 
 -- 1 to n bytes of the letter set
 abbrev pub plain : ℕ → Bytes → Judged
-plain n s = must (between 1 n (length s)) Length (must (all letter s) Letter (Good 0))
+plain n s = must (between 1 n (length s)) Length (must (all letter s) Letter (Ok 0))
 
 abbrev pub identifier : Bytes → Judged
-identifier s = must (between 1 35 (length s)) Length (must (all letter s) Letter (must (not (slashed s)) Slash (Good 0)))
+identifier s = must (between 1 35 (length s)) Length (must (all letter s) Letter (must (not (slashed s)) Slash (Ok 0)))
 
 abbrev pub name : Bytes → Judged
 name s = plain 70 s
@@ -64,7 +66,7 @@ town s = plain 35 s
 -- ─── numbers: 46 is the point, 48 the digit 0 ───
 
 abbrev pub count : Bytes → Judged
-count s = must (between 1 15 (length s) && all digit s) Number (Good (value s))
+count s = must (between 1 15 (length s) && all digit s) Number (Ok (value s))
 
 -- what may stand after the whole euros: nothing, or a point and one or two digits; and the cents that it is worth
 abbrev pub decimals : Bytes → Bool
@@ -82,10 +84,10 @@ abbrev pub cents : Bytes → ℕ
 cents s = value (take (span digit s) s) * 100 + hundredths (drop (span digit s) s)
 
 abbrev pub sum : Bytes → Judged
-sum s = must (in_euros 15 s) Number (Good (cents s))
+sum s = must (in_euros 15 s) Number (Ok (cents s))
 
 abbrev pub amount : Bytes → Judged
-amount s = must (in_euros 9 s && between 1 most_cents (cents s)) Number (Good (cents s))
+amount s = must (in_euros 9 s && between 1 most_cents (cents s)) Number (Ok (cents s))
 
 -- ─── dates ───
 
@@ -112,13 +114,13 @@ abbrev pub dated : Bytes → Bool
 dated s = fits (ascii "DDDD-DD-DD") s && real_day (value_at 0 4 s) (value_at 5 2 s) (value_at 8 2 s)
 
 abbrev pub date : Bytes → Judged
-date s = must (dated s) Date (Good (value_at 0 4 s * 10_000 + value_at 5 2 s * 100 + value_at 8 2 s))
+date s = must (dated s) Date (Ok (value_at 0 4 s * 10_000 + value_at 5 2 s * 100 + value_at 8 2 s))
 
 abbrev pub clock : Bytes → Bool
 clock s = fits (ascii "TDD:DD:DD") s && (between 0 23 (value_at 1 2 s) && (between 0 59 (value_at 4 2 s) && between 0 59 (value_at 7 2 s)))
 
 abbrev pub time : Bytes → Judged
-time s = must (dated (take 10 s) && clock (drop 10 s)) Date (Good 0)
+time s = must (dated (take 10 s) && clock (drop 10 s)) Date (Ok 0)
 
 -- ─── IBAN, BICFI, creditor identifier, country ───
 
@@ -129,10 +131,10 @@ leaves s = spelled (drop 4 s ++ take 4 s) % 97
 abbrev pub iban : Bytes → Judged
 iban s =
     must (fits (ascii "AADD") (take 4 s) && (between 1 30 (length (drop 4 s)) && all letter_or_digit (drop 4 s))) Shape
-    (must (eqb (leaves s) 1) CheckDigits (Good 0))
+    (must (eqb (leaves s) 1) CheckDigits (Ok 0))
 
 abbrev pub bic : Bytes → Judged
-bic s = must ((fits (ascii "NNNNAANN") s || fits (ascii "NNNNAANNNNN") s) && not (same s (ascii "NOTPROVIDED"))) Shape (Good 0)
+bic s = must ((fits (ascii "NNNNAANN") s || fits (ascii "NNNNAANNNNN") s) && not (same s (ascii "NOTPROVIDED"))) Shape (Ok 0)
 
 -- characters 5 to 7 left out
 abbrev pub without_business_code : Bytes → Bytes
@@ -142,21 +144,21 @@ without_business_code s = take 4 s ++ drop 7 s
 abbrev pub creditor_identifier : Bytes → Judged
 creditor_identifier s =
     must (fits (ascii "AADDNNN") (take 7 s) && (between 1 28 (length (drop 7 s)) && all capital_or_digit (drop 7 s))) Shape
-    (must (eqb (leaves (without_business_code s)) 1) CheckDigits (Good 0))
+    (must (eqb (leaves (without_business_code s)) 1) CheckDigits (Ok 0))
 
 -- "Ctry is two capitals" (request 3)
 abbrev pub country : Bytes → Judged
-country s = must (fits (ascii "AA") s) Shape (Good 0)
+country s = must (fits (ascii "AA") s) Shape (Ok 0)
 
 -- ─── codes ───
 
 -- one of the words, of which n stand before these
-abbrev pub code_from : ℕ → List String → Bytes → Judged
-code_from n [] s = Bad Code
-code_from n (w ∷ ws) s = elim (same s (ascii w)) [ true ↦ Good n | false ↦ code_from (suc n) ws s ]
+abbrev pub code_from : ℕ → List Bytes → Bytes → Judged
+code_from n [] s = Err Code
+code_from n (w ∷ ws) s = elim (same s w) [ true ↦ Ok n | false ↦ code_from (suc n) ws s ]
 
 abbrev pub one_of : List String → Bytes → Judged
-one_of ws s = code_from 0 ws s
+one_of ws s = code_from 0 (map ascii ws) s
 
 abbrev pub method : Bytes → Judged
 method s = one_of ("DD" ∷ []) s

@@ -1,4 +1,5 @@
-// The text rules. Each judges a lent part of a message or a list, of any bytes and any length.
+// The text rules. Each judges a lent part of a message or a list, of any bytes and any length: good, with the number that it states (a count, cents, yyyymmdd of
+// a date, a code's place among its words; else 0), or of which kind the first test is that it fails.
 //
 //   plain    identifiers, names, remittance, the texts of an address
 //   number   counts, sums, amounts
@@ -16,16 +17,10 @@ pub mod number;
 pub mod plain;
 pub mod shape;
 
-// What a text is judged: good, with the number that it states (a count, cents, yyyymmdd of a date, a code's place among its words; else 0), or of which kind
-// the first test is that it fails.
-#[derive(Clone, Copy)]
-pub enum Judged {
-    Good(u64),
-    Bad(profile::Flaw),
-}
+use profile::Flaw;
 
 // The rules by name.
-#[derive(Clone, Copy)]
+#[derive(Debug, Clone, Copy, PartialEq, Eq)]
 pub enum Rule {
     // MsgId, PmtInfId, InstrId, EndToEndId, MndtId
     Identifier,
@@ -73,13 +68,15 @@ pub enum Rule {
 }
 
 // A text judged by a rule.
-pub fn judge(rule: Rule, text: &[u8]) -> Judged
+pub fn judge(rule: Rule, text: &[u8]) -> Result<u64, Flaw>
     ensures { result ≡ judged rule text.now }
 {
     match rule {
         Rule::Identifier => plain::identifier(text),
-        Rule::Name => plain::name(text),
-        Rule::Remittance => plain::remittance(text),
+        Rule::Name | Rule::AddressLine => plain::plain_text(text, 70),
+        Rule::Remittance => plain::plain_text(text, 140),
+        Rule::AddressCode => plain::plain_text(text, 16),
+        Rule::Town => plain::plain_text(text, 35),
         Rule::Count => number::count(text),
         Rule::Sum => number::sum(text),
         Rule::Amount => number::amount(text),
@@ -89,16 +86,13 @@ pub fn judge(rule: Rule, text: &[u8]) -> Judged
         Rule::Iban => shape::iban(text),
         Rule::Bic => shape::bic(text),
         Rule::CreditorIdentifier => shape::creditor_identifier(text),
-        Rule::Method => code::method(text),
-        Rule::Booking => code::booking(text),
-        Rule::Sepa => code::sepa(text),
-        Rule::Scheme => code::scheme(text),
-        Rule::Sequence => code::sequence(text),
-        Rule::Charges => code::charges(text),
-        Rule::NotProvided => code::not_provided(text),
-        Rule::AddressLine => plain::address_line(text),
-        Rule::AddressCode => plain::address_code(text),
-        Rule::Town => plain::town(text),
         Rule::Country => shape::country(text),
+        Rule::Method => code::one_of(&["DD"], text),
+        Rule::Booking => code::one_of(&["true", "false"], text),
+        Rule::Sepa => code::one_of(&["SEPA"], text),
+        Rule::Scheme => code::one_of(&["CORE", "B2B"], text),
+        Rule::Sequence => code::one_of(&["FRST", "RCUR", "OOFF", "FNAL"], text),
+        Rule::Charges => code::one_of(&["SLEV"], text),
+        Rule::NotProvided => code::one_of(&["NOTPROVIDED"], text),
     }
 }

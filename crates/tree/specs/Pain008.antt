@@ -69,7 +69,7 @@ pstl_adr =
     country plays txt "Ctry" Country optional
     up_to_two (address_line plays txt "AdrLine" AddressLine))
 
--- Nm, pstl_adr?; the Nm plays the part p
+-- Nm, PstlAdr?; the Nm plays the part p
 abbrev pub party : ℕ → Items
 party p = p plays txt "Nm" Name then pstl_adr optional none
 

@@ -2,6 +2,7 @@
 #![tactic(auto)]
 
 // What stands between an element's opening tag and its first child or closing tag.
+// No Option<Rule>: the definitions of the form (specs/Form, specs/Pain008), which have to be believed, are written in `Holds` and `Text`.
 #[derive(Clone, Copy)]
 pub enum Kind {
     // White space: the element holds elements.
@@ -13,7 +14,7 @@ pub enum Kind {
 // What an element of a message says.
 #[derive(Clone, Copy)]
 pub struct Event {
-    // The part that the element plays: 0 for none.
+    // The part that the element plays: 0 for none. A number, since the definitions find elements by it (specs/Parts).
     pub part: usize,
     pub kind: Kind,
     // Where its `<` stands.

@@ -7,11 +7,11 @@ use native.Mathlib.Omega.{arith}
 use mathlib.Core.List.{List}
 use mathlib.Core.Path.{◌≡◌, ap}
 use lib.ListN.{length}
+use Rattle.std.specs.Prelude.{Ok}
 use Rattle.laws.specs.Bytes.{Bytes}
 use Rattle.profile.specs.Limits.{most_bytes, most_batches}
 use Rattle.frames.specs.Lines.{starts}
 use Rattle.frames.proofs.Starts.{starts-number}
-use Rattle.daylist.specs.declared.JudgedList.TheVariants.{Good}
 use Rattle.daylist.specs.Stages.{judged_list}
 use Rattle.daylist.proofs.Goods.{GoodList, good-list}
 use Rattle.bundle.specs.Labels.{need_of, labels_of}
@@ -25,7 +25,7 @@ use Rattle.written.specs.Written.{no_collection, batches_for, written}
 use Rattle.written.proofs.Bundled.{list_written, list_length}
 use Rattle.batched.specs.Ready.{ListReady, BatchesReady, batches_from, message_by}
 
-module _ (s : Bytes) (c n : ℕ) (e : judged_list s c ≡ Good n) (t ls : List ℕ) (u : t ≡ starts s) (v : length ls ≡ n) where
+module _ (s : Bytes) (c n : ℕ) (e : judged_list s c ≡ Ok n) (t ls : List ℕ) (u : t ≡ starts s) (v : length ls ≡ n) where
   list : GoodList s c n
   list = good-list s c n e
 

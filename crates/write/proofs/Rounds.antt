@@ -1,6 +1,6 @@
 -- THE BATCHES ONE BY ONE.
 --   up_go, up_end                    the numbers from k on, below m: k and those after it; none
---   Tallied f most m k sum           the sum of f over the numbers below k, each at most `most`; tallied_start, tallied_on, tallied_end: a loop that adds
+--   Tallied f most m k sum           the sum of f over the numbers below k, each at most `most`; tallied_on: a loop that adds
 --   batches-go, batches-end          what is left to write, from batch k on: its own bytes and the rest; nothing
 --   concat-count, concat-cents       how many collections the batches have, and their cents
 --   message_join                     the message from its opening, its batches and its end
@@ -11,10 +11,11 @@ use mathlib.Core.List.{List, [], ◌∷◌, ◌++◌, map}
 use mathlib.Core.Path.{◌≡◌, refl, ap, sym, ◌∙◌}
 use lib.Dec.{eqb}
 use lib.ListN.{length, length-append}
-use Rattle.laws.specs.Bytes.{Bytes, ascii}
+use Rattle.laws.specs.Bytes.{ascii}
 use Rattle.laws.specs.Lists.{total, count, concat}
 use Rattle.laws.proofs.Counts.{total-append, total_ext}
 use Rattle.bundle.specs.Labels.{pick, up_from, up_to}
+use Rattle.put.specs.declared.Output.{Output}
 use Rattle.put.specs.Wrote.{Wrote}
 use Rattle.collections.specs.Listed.{Collection, Creditor}
 use Rattle.written.specs.Written.{no_collection}
@@ -30,9 +31,6 @@ up_go k m h = let e : m - k ≡ suc (m - (k + 1)) = omega arith in rw (e, add-on
 pub up_end : (k m : ℕ) → m ≤ k → up_from k (m - k) ≡ []
 up_end k m h = let e : m - k ≡ 0 = omega arith in rw e
 
-up_all : (m : ℕ) → up_to m ≡ up_from 0 (m - 0)
-up_all m = let e : m - 0 ≡ m = omega arith in rw e
-
 -- ─── a loop that adds ───
 
 pub record Tallied (f : ℕ → ℕ) (most m k sum : ℕ) : Type 0 where
@@ -41,15 +39,9 @@ pub record Tallied (f : ℕ → ℕ) (most m k sum : ℕ) : Type 0 where
   pub is : sum + total f (up_from k (m - k)) ≡ total f (up_to m)
 
 module _ (f : ℕ → ℕ) (most m : ℕ) where
-  pub tallied_start : Tallied f most m 0 0
-  tallied_start = record { within = omega arith; few = omega arith; is = omega (arith, ap (total f) (up_all m)) }
-
   module _ (k sum : ℕ) (t : Tallied f most m k sum) where
     pub tallied_on : (v : ℕ) → k < m → v ≡ f k → v ≤ most → Tallied f most m (k + 1) (sum + v)
     tallied_on v h e l = record { within = omega arith; few = omega (arith, t.few); is = omega (arith, t.is, e, ap (total f) (up_go k m h)) }
-
-    pub tallied_end : m ≤ k → sum ≡ total f (up_to m)
-    tallied_end h = omega (arith, t.is, ap (total f) (up_end k m h))
 
 -- ─── a loop that writes ───
 
@@ -59,9 +51,6 @@ module _ (cr : Creditor) (labels : List ℕ) (xs : List Collection) (k m : ℕ) 
 
   pub batches-end : m ≤ k → batches_bytes cr (k + 1) (batches_from k (m - k) labels xs) ≡ []
   batches-end h = rw (up_end k m h)
-
-pub batches-all : (cr : Creditor) (labels : List ℕ) (xs : List Collection) (m : ℕ) → batches_bytes cr 1 (batches_from 0 m labels xs) ≡ batches_bytes cr (0 + 1) (batches_from 0 (m - 0) labels xs)
-batches-all cr labels xs m = let e : m - 0 ≡ m = omega arith in rw e
 
 -- ─── the message ───
 
@@ -82,7 +71,7 @@ module _ (labels : List ℕ) (xs : List Collection) (m : ℕ) where
   pub concat-cents : total (λ k. total (λ x. x.cents) (pick k labels xs)) (up_to m) ≡ total (λ x. x.cents) (concat (batches_from 0 m labels xs))
   concat-cents = sym (concat-total (λ (x : Collection). x.cents) (λ k. pick k labels xs) (up_to m))
 
-pub message_join : {out out' : Bytes} {at r : ℕ} (cr : Creditor) (bs : List (List Collection)) (n sum : ℕ) → n ≡ length (concat bs) → sum ≡ total (λ x. x.cents) (concat bs)
-    → Wrote out out' at r (opening_bytes cr n sum ++ (batches_bytes cr 1 bs ++ ascii "</CstmrDrctDbtInitn></Document>")) → Wrote out out' at r (message_bytes cr bs)
+pub message_join : {o o' : Output} (cr : Creditor) (bs : List (List Collection)) (n sum : ℕ) → n ≡ length (concat bs) → sum ≡ total (λ x. x.cents) (concat bs)
+    → Wrote o o' (opening_bytes cr n sum ++ (batches_bytes cr 1 bs ++ ascii "</CstmrDrctDbtInitn></Document>")) → Wrote o o' (message_bytes cr bs)
 unfolding message_bytes
 message_join cr bs n sum a b w = rw (← a, ← b) w

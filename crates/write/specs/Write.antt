@@ -7,27 +7,28 @@
 --   as_judged j a           21 to 25 and 51 to 58: the list as it is judged
 --   answer_for s c room     THE ANSWER for the list s at the ceiling c, with so much room: the first refusal, or the length of the message
 --   output_for s c out      THE OUTPUT afterwards: the message at its front and otherwise as it was; on refusal as it was
-use Rattle.std.specs.Prelude.{ℕ, true, false, leb, length}
+use Rattle.std.specs.Prelude.{ℕ, true, false, leb, length, Result, Ok, Err}
 use Rattle.laws.specs.Bytes.{Bytes}
 use Rattle.laws.specs.Put.{put_at}
 use Rattle.profile.specs.Limits.{most_batches}
 use Rattle.profile.specs.Refusals.{Fault, fault, list_fault_of}
-use Rattle.daylist.specs.declared.JudgedList.{JudgedList}
-use Rattle.daylist.specs.declared.JudgedList.TheVariants.{Good, Refused as Bad}
-use Rattle.daylist.specs.Stages.{judged_list}
+use Rattle.profile.specs.declared.ListRefusal.{ListRefusal}
+use Rattle.daylist.specs.Stages.{JudgedList, judged_list}
 use Rattle.bundle.specs.Bundle.{need}
 use Rattle.collections.specs.Listed.{same_terms, listed}
 use Rattle.written.specs.Written.{written}
-use Rattle.write.specs.declared.Written.{Written}
-use Rattle.write.specs.declared.Written.TheVariants.{Length, Refused}
 
 pub data Answer : Type 0 where
   success : ℕ → Answer
   refused : Fault → Answer
 
+-- what comes of writing: the length of the message, or why there is none
+abbrev pub Written : Type 0
+Written = Result ℕ ListRefusal
+
 abbrev pub answered : Written → Answer
-answered (Length n) = success n
-answered (Refused r) = refused (list_fault_of r)
+answered (Ok n) = success n
+answered (Err r) = refused (list_fault_of r)
 
 abbrev pub batches_needed : Bytes → ℕ → ℕ
 batches_needed s c = need (λ x. x.terms) same_terms c (listed s)
@@ -42,8 +43,8 @@ bundled n a = elim (leb n most_batches) [ true ↦ a | false ↦ refused (fault 
 
 -- 21 to 25 and 51 to 58
 abbrev pub as_judged : JudgedList → Answer → Answer
-as_judged (Good n) a = a
-as_judged (Bad r) a = refused (list_fault_of r)
+as_judged (Ok n) a = a
+as_judged (Err r) a = refused (list_fault_of r)
 
 unfoldable pub answer_for : Bytes → ℕ → ℕ → Answer
 answer_for s c room = as_judged (judged_list s c) (bundled (batches_needed s c) (fitted (written s c) room))

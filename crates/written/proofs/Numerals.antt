@@ -15,12 +15,12 @@ use lib.Dec.{T, eqb}
 use lib.ListN.{length, take, drop, length-append}
 use lib.Seq.{take_at, drop_at}
 use borrow.Author.Tests.{lt-ltb, ne_eqb}
+use Rattle.std.specs.Prelude.{Ok}
 use Rattle.laws.specs.Bytes.{Bytes, all, span}
 use Rattle.laws.proofs.Tests.{true-T, and_l, and_r, T_true}
 use Rattle.marks.proofs.Classes.{letter-within}
 use Rattle.marks.specs.Marks.{letter, digit, value, value_from}
 use Rattle.profile.specs.Limits.{most_cents}
-use Rattle.text.specs.declared.Judged.TheVariants.{Good}
 use Rattle.text.specs.Rules.{count, hundredths, decimals, in_euros, cents, sum, amount, identifier, scheme, sequence}
 use Rattle.text.proofs.Musts.{between_in}
 use Rattle.put.specs.Numerals.{last_digit, decimal_of, decimal, euros, batch_id}
@@ -62,7 +62,7 @@ decimal-few (suc most) (suc k) n h =
 
 -- ─── a count ───
 
-pub count-good : (n : ℕ) → n < 10 ^ 15 → count (decimal n) ≡ Good n
+pub count-good : (n : ℕ) → n < 10 ^ 15 → count (decimal n) ≡ Ok n
 count-good n h =
     rw (between_in 1 15 (length (decimal n)) (decimal-some 19 n) (decimal-few 20 14 n h), T_true (all digit (decimal n)) (decimal-digits 20 n), decimal-value 20 n (omega arith))
 
@@ -104,10 +104,10 @@ module _ (n : ℕ) where
   euros-of : (k : ℕ) → length (decimal (n / 100)) ≤ k → in_euros k (euros n) ≡ true
   euros-of k h = rw (euros-rest, euros-span, between_in 1 k (length (decimal (n / 100))) (decimal-some 19 (n / 100)) h) tail-decimals
 
-  pub sum-good : n < 10 ^ 17 → sum (euros n) ≡ Good n
+  pub sum-good : n < 10 ^ 17 → sum (euros n) ≡ Ok n
   sum-good h = rw (euros-of 15 (decimal-few 20 14 (n / 100) (whole 15 h)), euros-cents (whole 20 (omega arith)))
 
-  pub amount-good : 1 ≤ n → n ≤ most_cents → amount (euros n) ≡ Good n
+  pub amount-good : 1 ≤ n → n ≤ most_cents → amount (euros n) ≡ Ok n
   amount-good l h = rw (euros-of 9 (decimal-few 20 8 (n / 100) (whole 9 (omega arith))), euros-cents (whole 20 (omega arith)), between_in 1 most_cents n l h)
 
   pub euros-length : (k : ℕ) → n < 10 ^ suc k * 100 → length (euros n) ≤ k + 4
@@ -125,15 +125,15 @@ digit-letter n = let h : n % 10 < 10 = mod-lt n {m = 10} (omega arith) in sym (l
 digit_slash : (n : ℕ) → eqb 47 (last_digit n) ≡ false
 digit_slash n = ne_eqb 47 (48 + n % 10) (λ e. omega arith)
 
-pub batch_id_good : (n : ℕ) → identifier (batch_id n) ≡ Good 0
+pub batch_id_good : (n : ℕ) → identifier (batch_id n) ≡ Ok 0
 batch_id_good n = rw (digit-letter (n / 100), digit-letter (n / 10), digit-letter n, digit_slash (n / 100), digit_slash (n / 10), digit_slash n)
 
-pub scheme-good : (n : ℕ) → n ≤ 1 → scheme (scheme_word n) ≡ Good n
+pub scheme-good : (n : ℕ) → n ≤ 1 → scheme (scheme_word n) ≡ Ok n
 scheme-good zero h = refl
 scheme-good (suc zero) h = refl
 scheme-good (suc (suc n)) h = absurd (omega arith)
 
-pub sequence-good : (n : ℕ) → n ≤ 3 → sequence (sequence_word n) ≡ Good n
+pub sequence-good : (n : ℕ) → n ≤ 3 → sequence (sequence_word n) ≡ Ok n
 sequence-good zero h = refl
 sequence-good (suc zero) h = refl
 sequence-good (suc (suc zero)) h = refl

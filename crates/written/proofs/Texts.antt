@@ -16,8 +16,7 @@ use Rattle.laws.proofs.Loops.{agree-length, all_append, all-widen}
 use Rattle.marks.specs.Marks.{capital_or_digit, letter_or_digit, letter, mark, fits}
 use Rattle.marks.proofs.Classes.{fits_all}
 use Rattle.profile.specs.declared.Flaw.{Flaw}
-use Rattle.text.specs.declared.Judged.{Judged}
-use Rattle.text.specs.Rules.{must, good, plain, identifier, name, remittance, value_at, real_day, dated, date, clock, time, iban, bic, creditor_identifier}
+use Rattle.text.specs.Rules.{Judged, must, good, plain, identifier, name, remittance, value_at, real_day, dated, date, clock, time, iban, bic, creditor_identifier}
 use Rattle.tree.specs.Form.{in_text}
 use Rattle.collections.specs.Listed.{Collection, Creditor}
 use Rattle.collections.specs.Good.{empty_or, GoodCollection, GoodCreditor}

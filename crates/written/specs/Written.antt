@@ -2,7 +2,7 @@
 --   scheme_word n, sequence_word n       the word of a scheme and of a sequence
 --   bank_tree b, account_tree a          BICFI, or NOTPROVIDED for the empty BIC; Id(IBAN)
 --   remittance_tree r                   RmtInf(Ustrd), or nothing for no remittance
---   header_tree, transaction_tree, batch_tree   grp_hdr, drct_dbt_tx_inf, pmt_inf
+--   header_tree, transaction_tree, batch_tree   GrpHdr, DrctDbtTxInf, PmtInf
 --   message_of cr bs                    the message of a creditor and its batches
 --   batches_for s c                     the batches of the list s at the ceiling c
 --   message_for s c                     THE MESSAGE of the list s at the ceiling c; `written s c`: its bytes

@@ -1,19 +1,14 @@
 -- `bundle::label` meets its contract. Outer pass: the collections of the codes before `at` have their labels, and `next` is the next free number.
--- Inner search: no collection before `earlier` has the code of `at`.
-use Prim.Native.Nat.{◌-◌}
+-- Inner search: the code of `at` is not among those that it went past.
 use mathlib.Core.Path.{◌≡◌}
-use lib.ListN.{length}
-use Rattle.bundle.proofs.Loops.{Searching, Labelled}
+use lib.Dec.{eqb}
+use lib.ListN.{take}
+use Rattle.laws.specs.Lists.{count}
+use Rattle.bundle.proofs.Loops.{Labelled}
 use Rattle.bundle.proofs.label.Given as goal
 
 abbrev pub invariant-loop-earlier : goal.invariant-loop-earlier
-invariant-loop-earlier l = (l.at ≡ l.initial.at) × Searching l.codes l.at l.earlier × Labelled l.ceiling l.codes l.labels l.at l.next
-
-abbrev pub decreases-loop-earlier : goal.decreases-loop-earlier
-decreases-loop-earlier l = l.at - l.earlier
+invariant-loop-earlier l = count (eqb l.code) (take l.earlier-index l.earlier-items) ≡ 0
 
 abbrev pub invariant-outer : goal.invariant-outer
 invariant-outer l = Labelled l.ceiling l.codes l.labels l.at l.next
-
-abbrev pub decreases-outer : goal.decreases-outer
-decreases-outer l = length l.codes - l.at

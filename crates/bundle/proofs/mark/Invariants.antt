@@ -1,12 +1,7 @@
 -- `bundle::mark` meets its contract. The invariant: `placed` of the first k collections have the code, and those have their labels.
-use Prim.Native.Nat.{◌-◌}
-use lib.ListN.{length}
 use Rattle.bundle.specs.Labels.{Marked}
 use Rattle.bundle.proofs.Loops.{Met}
 use Rattle.bundle.proofs.mark.Given as goal
 
 abbrev pub invariant-loop-k : goal.invariant-loop-k
 invariant-loop-k l = Met l.codes l.code l.k l.placed × Marked l.ceiling l.first l.code l.codes l.initial.labels l.labels l.k
-
-abbrev pub decreases-loop-k : goal.decreases-loop-k
-decreases-loop-k l = length l.codes - l.k

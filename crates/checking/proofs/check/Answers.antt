@@ -1,22 +1,18 @@
-use mathlib.Core.Path.{subst}
-use Rattle.answer.specs.declared.Checked.{Checked}
+use mathlib.Core.Path.{refl, subst}
+use Rattle.std.proofs.lemmas.Result.{err_from_is_err_and}
+use Rattle.answer.specs.Said.{Checked}
 use Rattle.promise.specs.Check.{room_of}
 use Rattle.checking.specs.Inner.{Verdicts}
-use Rattle.checking.proofs.Passes.{lent_none, filled_lent, check_refused, check_accepted}
-use borrow.Author.Rules.{rules}
+use Rattle.checking.proofs.Passes.{check_refused, check_accepted}
 use Rattle.checking.proofs.check.Goals as goal
 
-pub returns-in-Refused : goal.returns-in-Refused
-returns-in-Refused c =
+pub returns-in_err-totals : goal.returns-in_err-totals
+returns-in_err-totals c =
     let a = c.args in
-    let pass = c.pass-checked in
-    check_refused a.message.now a.slips.now a.rows.now _ _ _ (subst (λ (r : Checked). Verdicts a.message.now (room_of a.slips.now a.rows.now) r) c.in-Refused.is pass.ensures.verdict) (lent_none a.slips.now pass.new.a (search rules)) (lent_none a.rows.now pass.new.b (search rules))
+    let p = err_from_is_err_and c.from_residual.result c.from_residual.ensures.1 in
+    rw (p.1, p.2) (check_refused a.message.now a.slips.now a.rows.now _ _ _ (subst (λ (r : Checked). Verdicts a.message.now (room_of a.slips.now a.rows.now) r) c.in_err-totals.was c.pass.ensures.verdict) refl refl)
 
-pub returns-in-Accepted : goal.returns-in-Accepted
-returns-in-Accepted c =
+pub returns : goal.returns
+returns c =
     let a = c.args in
-    let pass = c.pass-checked in
-    check_accepted a.message.now a.slips.now a.rows.now _ _ _ (subst (λ (r : Checked). Verdicts a.message.now (room_of a.slips.now a.rows.now) r) c.in-Accepted.is pass.ensures.verdict)
-    (filled_lent a.message.now a.slips.now a.rows.now _ _ _ _
-    (lent_none a.slips.now pass.new.a (search rules))
-    (lent_none a.rows.now pass.new.b (search rules)) c.pass.ensures.fills)
+    check_accepted a.message.now a.slips.now a.rows.now _ _ _ (subst (λ (r : Checked). Verdicts a.message.now (room_of a.slips.now a.rows.now) r) c.in_ok-totals.was c.pass.ensures.verdict) c.pass-2.ensures.fills

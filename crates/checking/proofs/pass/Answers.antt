@@ -1,95 +1,38 @@
-use mathlib.Core.List.{[]}
-use mathlib.Core.Path.{ap, subst⁻¹, ◌∙◌}
-use Rattle.profile.specs.declared.Tally.{Tally}
+use Rattle.std.proofs.lemmas.Result.{err_from_is_err_and}
 use Rattle.tree.specs.Pain008.{document}
 use Rattle.tree.proofs.Pain008.{profile_ok}
-use Rattle.heard.specs.Row.{state_of}
-use Rattle.heard.specs.Bounds.{Within}
-use Rattle.heard.proofs.Bounds.{within-fresh}
 use Rattle.plan.proofs.Held.{held}
-use Rattle.checking.proofs.Passes.{small, totals-fit, verdict-long, verdict-stuck, verdict-judged, filled-long, filled-stuck, filled}
-use borrow.Author.Rules.{rules}
+use Rattle.checking.proofs.Passes.{Walked, walked, within-begun, small, totals-fit, verdict-refused, verdict-judged, filled-refused, filled}
 use Rattle.checking.proofs.pass.Goals as goal
+use Rattle.checking.proofs.pass.Goals.{After-read}
 
 pub read-requires : goal.read-requires
 read-requires c =
-    let p = c.requires in
-    let fresh = c.fresh-heard in (
-      search rules,
-      (subst⁻¹ (Within 0) (ap (λ (y : Tally). state_of fresh.result y [] []) c.fresh-fresh.ensures ∙ fresh.ensures [] []) (within-fresh [] []), (record { element = document; held = p.0; ranks = p.1 }, (held _ 0 document p.0).is-kind)),
+    let p = c.requires in (
+      within-begun c.fresh-heard.result c.fresh.result.tally c.fresh-heard.ensures c.fresh.ensures,
+      (record { element = document; held = p.0; ranks = p.1 }, (held _ 0 document p.0).is-kind),
     )
 
+-- the message was walked
+walk : (c : After-read) → Walked c.args.message.now c.args.a.now c.args.b.now c.read.new.slips c.read.new.rows c.read.new.heard c.read.result
+walk c = walked c.fresh-heard.result c.fresh.result.tally c.fresh-heard.ensures c.fresh.ensures (c.read.ensures.right document profile_ok c.requires.0) c.read.ensures.within
+
+pub returns-in_err-tally-clause-verdict : goal.returns-in_err-tally-clause-verdict
+returns-in_err-tally-clause-verdict c =
+    let p = err_from_is_err_and c.from_residual.result c.from_residual.ensures.1 in
+    rw (p.1, p.2) (verdict-refused (walk (goal.at.returns-in_err-tally-clause-verdict c).After-read) _ _ c.in_err-tally.was)
+
+pub returns-in_err-tally-clause-fills : goal.returns-in_err-tally-clause-fills
+returns-in_err-tally-clause-fills c = filled-refused (walk (goal.at.returns-in_err-tally-clause-fills c).After-read) _ _ _ c.in_err-tally.was
+
 pub finish-totals-requires : goal.finish-totals-requires
-finish-totals-requires c =
-    let a = c.args in
-    let p = c.requires in
-    let fresh = c.fresh-heard in
-    let fresh2 = c.fresh-fresh in
-    let read = c.read in
-    (search rules, small a.message.now a.a.now a.b.now read.new.slips read.new.rows fresh.result read.new.heard fresh2.result.tally read.result fresh.ensures fresh2.ensures (read.ensures.right document profile_ok p.0) _ c.in-Read.is read.ensures.within)
+finish-totals-requires c = small (walk (goal.at.finish-totals-requires c).After-read) _ c.in_ok-tally.was
 
 pub answer-requires : goal.answer-requires
-answer-requires c =
-    let a = c.args in
-    let p = c.requires in
-    let fresh = c.fresh-heard in
-    let fresh2 = c.fresh-fresh in
-    let read = c.read in
-    let finish = c.finish-totals in
-    (search rules, totals-fit a.message.now a.a.now a.b.now read.new.slips read.new.rows fresh.result read.new.heard fresh2.result.tally read.result fresh.ensures fresh2.ensures (read.ensures.right document profile_ok p.0) _ c.in-Read.is read.ensures.within _ _ _ _ finish.ensures)
+answer-requires c = totals-fit (walk (goal.at.answer-requires c).After-read) _ c.in_ok-tally.was _ _ _ _ c.finish-totals.ensures
 
-pub returns-in-TooLong-clause-verdict : goal.returns-in-TooLong-clause-verdict
-returns-in-TooLong-clause-verdict c =
-    let a = c.args in
-    let p = c.requires in
-    let fresh = c.fresh-heard in
-    let fresh2 = c.fresh-fresh in
-    let read = c.read in
-    verdict-long a.message.now a.a.now a.b.now read.new.slips read.new.rows fresh.result read.new.heard fresh2.result.tally read.result fresh.ensures fresh2.ensures (read.ensures.right document profile_ok p.0) _ c.in-TooLong.is
+pub returns-clause-verdict : goal.returns-clause-verdict
+returns-clause-verdict c = verdict-judged (walk (goal.at.returns-clause-verdict c).After-read) _ c.in_ok-tally.was _ _ _ _ c.finish-totals.ensures _ _ c.answer.ensures
 
-pub returns-in-TooLong-clause-fills : goal.returns-in-TooLong-clause-fills
-returns-in-TooLong-clause-fills c =
-    let a = c.args in
-    let p = c.requires in
-    let fresh = c.fresh-heard in
-    let fresh2 = c.fresh-fresh in
-    let read = c.read in
-    filled-long a.message.now a.a.now a.b.now read.new.slips read.new.rows fresh.result read.new.heard fresh2.result.tally read.result fresh.ensures fresh2.ensures (read.ensures.right document profile_ok p.0) _ _ c.in-TooLong.is
-
-pub returns-in-Stuck-clause-verdict : goal.returns-in-Stuck-clause-verdict
-returns-in-Stuck-clause-verdict c =
-    let a = c.args in
-    let p = c.requires in
-    let fresh = c.fresh-heard in
-    let fresh2 = c.fresh-fresh in
-    let read = c.read in
-    verdict-stuck a.message.now a.a.now a.b.now read.new.slips read.new.rows fresh.result read.new.heard fresh2.result.tally read.result fresh.ensures fresh2.ensures (read.ensures.right document profile_ok p.0) _ _ c.in-Stuck.is
-
-pub returns-in-Stuck-clause-fills : goal.returns-in-Stuck-clause-fills
-returns-in-Stuck-clause-fills c =
-    let a = c.args in
-    let p = c.requires in
-    let fresh = c.fresh-heard in
-    let fresh2 = c.fresh-fresh in
-    let read = c.read in
-    filled-stuck a.message.now a.a.now a.b.now read.new.slips read.new.rows fresh.result read.new.heard fresh2.result.tally read.result fresh.ensures fresh2.ensures (read.ensures.right document profile_ok p.0) _ _ _ c.in-Stuck.is
-
-pub returns-in-Read-clause-verdict : goal.returns-in-Read-clause-verdict
-returns-in-Read-clause-verdict c =
-    let a = c.args in
-    let p = c.requires in
-    let fresh = c.fresh-heard in
-    let fresh2 = c.fresh-fresh in
-    let read = c.read in
-    let finish = c.finish-totals in
-    verdict-judged a.message.now a.a.now a.b.now read.new.slips read.new.rows fresh.result read.new.heard fresh2.result.tally read.result fresh.ensures fresh2.ensures (read.ensures.right document profile_ok p.0) _ c.in-Read.is _ _ _ _ finish.ensures _ _ c.answer.ensures
-
-pub returns-in-Read-clause-fills : goal.returns-in-Read-clause-fills
-returns-in-Read-clause-fills c =
-    let a = c.args in
-    let p = c.requires in
-    let fresh = c.fresh-heard in
-    let fresh2 = c.fresh-fresh in
-    let read = c.read in
-    let finish = c.finish-totals in
-    filled a.message.now a.a.now a.b.now read.new.slips read.new.rows fresh.result read.new.heard fresh2.result.tally read.result fresh.ensures fresh2.ensures (read.ensures.right document profile_ok p.0) _ c.in-Read.is _ _ _ _ finish.ensures
+pub returns-clause-fills : goal.returns-clause-fills
+returns-clause-fills c = filled (walk (goal.at.returns-clause-fills c).After-read) _ c.in_ok-tally.was _ _ _ _ c.finish-totals.ensures

@@ -1,13 +1,14 @@
 use Rattle.std.proofs.Common.{ℕ, ◌<◌, ◌/◌, take, drop}
 use Rattle.laws.specs.Bytes.{Bytes}
-use Rattle.text.specs.declared.Judged.{Judged}
+use Rattle.std.specs.Prelude.{Ok, Err}
+use Rattle.std.specs.Result.{result_unwrap_or}
 use Rattle.collections.proofs.Lines.{date-there}
 use Rattle.collections.specs.Listed.{collection_of}
 use Rattle.frames.proofs.Digits.{unhex-length}
 use Rattle.frames.specs.Hex.{unhex}
-use Rattle.text.specs.Rules.{number_told, date}
+use Rattle.text.specs.Rules.{Judged, number_told, date}
 use lib.ListN.{length, get_or}
-use mathlib.Core.Path.{◌≡◌, sym, ◌∙◌, ap}
+use mathlib.Core.Path.{◌≡◌, refl, sym, ◌∙◌, ap}
 use native.Mathlib.Omega.{arith}
 use Prim.Native.Nat.{◌-◌, min}
 use Rattle.collections.proofs.day_number.Goals as goal
@@ -18,10 +19,12 @@ judged-is : (line : Bytes) (b m : ℕ) (j : Judged) → 8 < length line / 2 → 
 judged-is line b m j h e f g = let n = unhex-length line in g ∙ ap date (sym (date-there (unhex line) m (rw n h) (rw (n, ← e) f)))
 
 pub judge_part-requires : goal.judge_part-requires
-judge_part-requires c = omega (arith, c.least-size.ensures, unhex-length c.args.line.now)
+judge_part-requires c = omega (arith, c.min-size.ensures, unhex-length c.args.line.now)
 
-pub returns-in-Good : goal.returns-in-Good
-returns-in-Good c = ap number_told (sym c.in-Good.is ∙ judged-is c.args.line.now _ _ _ c.if-end-le8.false c.byte_at-length.ensures c.least-size.ensures c.judge_part.ensures)
+-- a date states its number, and what is none has the number 0
+told : (j : Judged) → result_unwrap_or j 0 ≡ number_told j
+told (Ok n) = refl
+told (Err f) = refl
 
-pub returns-in-Bad : goal.returns-in-Bad
-returns-in-Bad c = ap number_told (sym c.in-Bad.is ∙ judged-is c.args.line.now _ _ _ c.if-end-le8.false c.byte_at-length.ensures c.least-size.ensures c.judge_part.ensures)
+pub returns : goal.returns
+returns c = c.unwrap_or.ensures ∙ told c.judge_part.result ∙ ap number_told (judged-is c.args.line.now _ _ _ c.if-end-le8.false (omega arith) c.min-size.ensures c.judge_part.ensures)

@@ -3,11 +3,8 @@ use Rattle.collections.specs.Numbers.{numbers_of}
 use Rattle.laws.specs.Put.{put_at}
 use lib.ListN.{length, drop}
 use mathlib.Core.Path.{◌≡◌}
-use Prim.Native.Nat.{◌-◌, ◌≤◌}
+use Prim.Native.Nat.{◌≤◌}
 use Rattle.collections.proofs.terms_numbers.Given as goal
 
 abbrev pub invariant-loop-i : goal.invariant-loop-i
 invariant-loop-i l = (length l.numbers ≡ length l.initial.numbers) × (l.i ≤ length l.numbers) × (put_at l.numbers l.i (drop l.i (numbers_of l.list)) ≡ numbers_of l.list)
-
-abbrev pub decreases-loop-i : goal.decreases-loop-i
-decreases-loop-i l = length l.numbers - l.i

@@ -18,22 +18,22 @@ module _ (n i left : ℕ) (s : Bytes) (v : ℕ) (h : 0 < i) (l : i ≤ length s)
   wrote_more k e f = f ∙ rw (decimal-more i left h k, store_front s i v h l, e) (append_assoc (decimal_of (i - 1) (left / 10)) (last_digit left ∷ []) (drop i s))
 
 -- no digit is left to write
-wrote_all : (n i left : ℕ) (s : Bytes) → i ≡ 0 → decimal n ≡ decimal_of i left ++ drop i s → drop i s ≡ decimal n
+wrote_all : (n i left : ℕ) (s : Bytes) → i ≡ 0 → decimal n ≡ decimal_of i left ++ drop i s → drop 0 s ≡ decimal n
 unfolding decimal_of
 wrote_all n i left s e f = sym (f ∙ rw e)
 
 pub returns-then-left-lt10 : goal.returns-then-left-lt10
 returns-then-left-lt10 c =
     let l = c.loop-from in
-    (omega arith, wrote_last c.args.n l.from l.left l.digits c.digit.result c.loop-from-test.true (omega arith) c.if-left-lt10.true c.digit.ensures l.invariant.2)
+    (omega arith, wrote_last c.args.n l.from l.left l.digits c.last_digit.result c.loop-from-test.true (omega arith) c.if-left-lt10.true c.last_digit.ensures l.invariant.2)
 
 pub loop-from-preserved : goal.loop-from-preserved
 loop-from-preserved c =
     let l = c.loop-from in (
       simp length-set l.invariant.0,
       omega arith,
-      wrote_more c.args.n l.from l.left l.digits c.digit.result c.loop-from-test.true (omega arith) c.if-left-lt10.false c.digit.ensures l.invariant.2,
+      wrote_more c.args.n l.from l.left l.digits c.last_digit.result c.loop-from-test.true (omega arith) c.if-left-lt10.false c.last_digit.ensures l.invariant.2,
     )
 
 pub returns : goal.returns
-returns c = let l = c.loop-from in (l.invariant.1, wrote_all c.args.n l.from l.left l.digits (omega arith) l.invariant.2)
+returns c = let l = c.loop-from in (omega arith, wrote_all c.args.n l.from l.left l.digits (omega arith) l.invariant.2)

@@ -8,6 +8,3 @@ use Rattle.put.proofs.digits_of.Given as goal
 
 abbrev pub invariant-loop-from : goal.invariant-loop-from
 invariant-loop-from l = (length l.digits ≡ 20) × (l.from ≤ 20) × (decimal l.n ≡ decimal_of l.from l.left ++ drop l.from l.digits)
-
-abbrev pub decreases-loop-from : goal.decreases-loop-from
-decreases-loop-from l = l.from

@@ -4,7 +4,7 @@ use Rattle.scan.proofs.Words.{Alike}
 use Rattle.scan.proofs.stands.Given as goal
 
 abbrev pub invariant-loop-i : goal.invariant-loop-i
-invariant-loop-i l = Alike l.s l.at l.t l.o l.i
+invariant-loop-i l = Alike l.s l.at l.word 0 l.i
 
 abbrev pub decreases-loop-i : goal.decreases-loop-i
 decreases-loop-i l = l.m - l.i

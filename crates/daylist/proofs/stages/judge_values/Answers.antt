@@ -1,15 +1,8 @@
-use Rattle.daylist.proofs.Stops.{values-bad, values-go}
-use mathlib.Core.Path.{sym, ◌∙◌}
-use native.Mathlib.Omega.{arith}
+use Rattle.daylist.proofs.Walking.{value_judged, values_walked}
+use Rattle.frames.specs.Lines.{lines}
+use Rattle.std.proofs.Common.{rules, tests}
+use mathlib.Core.Path.{◌∙◌}
 use Rattle.daylist.proofs.stages.judge_values.Goals as goal
 
-pub returns-in-Bad : goal.returns-in-Bad
-returns-in-Bad c =
-    let l = c.loop-at in
-    values-bad _ l.at _ c.line_end-end.ensures.0 l.done _ _ c.loop-at-test.true
-    (sym c.judge_line.ensures ∙ c.in-Bad.is) ∙ sym l.invariant.1
-
-pub loop-at-preserved : goal.loop-at-preserved
-loop-at-preserved c =
-    let l = c.loop-at in
-    (omega arith, l.invariant.1 ∙ values-go _ l.at _ c.line_end-end.ensures.0 l.done c.loop-at-test.true (sym c.judge_line.ensures ∙ c.in_default.is))
+pub returns : goal.returns
+returns c = c.each_line.ensures value_judged (λ s e n r q. search (rules, tests)) ∙ values_walked 0 (lines c.args.list.now)

@@ -11,21 +11,21 @@ pub loop-at-init : goal.loop-at-init
 loop-at-init c =
     let x = c.args in
     let e : x.from - x.from ≡ 0 = omega arith in
-    ((omega arith, rw e (omega arith)), high_start (unhex x.line.now) x.from x.count c.least-end.result (rw (unhex-length x.line.now) c.least-end.ensures))
+    ((omega arith, rw e (omega arith)), high_start (unhex x.line.now) x.from x.count c.min-end.result (rw (unhex-length x.line.now) c.min-end.ensures))
 
 pub overflow_mul-v : goal.overflow_mul-v
-overflow_mul-v c = let l = c.loop-at in let x = c.args in omega (arith, c.least-end.ensures, high_under l.v (l.at - x.from) l.invariant.0.1 6 (omega (arith, c.least-end.ensures, c.requires)))
+overflow_mul-v c = let l = c.loop-at in let x = c.args in omega (arith, c.min-end.ensures, high_under l.v (l.at - x.from) l.invariant.0.1 6 (omega (arith, c.min-end.ensures, c.requires)))
 
 pub overflow_add-v : goal.overflow_add-v
-overflow_add-v c = let l = c.loop-at in let x = c.args in omega (arith, c.least-end.ensures, c.wide.ensures.0, high_under l.v (l.at - x.from) l.invariant.0.1 6 (omega (arith, c.least-end.ensures, c.requires)))
+overflow_add-v c = let l = c.loop-at in let x = c.args in omega (arith, c.min-end.ensures, c.from.ensures, high_under l.v (l.at - x.from) l.invariant.0.1 6 (omega (arith, c.min-end.ensures, c.requires)))
 
 pub loop-at-preserved : goal.loop-at-preserved
 loop-at-preserved c =
     let l = c.loop-at in
     let x = c.args in
     let s = unhex x.line.now in
-    let b : c.wide.result ≡ get_or s l.at 0 = c.wide.ensures.0 ∙ c.byte_at.ensures in
+    let b : c.from.result ≡ get_or s l.at 0 = c.from.ensures ∙ c.byte_at.ensures in
     let d : l.at + 1 - x.from ≡ l.at - x.from + 1 = omega arith in (
-      (omega arith, rw d (high_more l.v (l.at - x.from) l.invariant.0.1 c.wide.result (omega (arith, c.wide.ensures.0)))),
-      l.invariant.1 ∙ rw b (high_go l.v s l.at c.least-end.result c.loop-at-test.true (omega (arith, c.least-end.ensures, unhex-length x.line.now))),
+      (omega arith, rw d (high_more l.v (l.at - x.from) l.invariant.0.1 c.from.result (omega (arith, c.from.ensures)))),
+      l.invariant.1 ∙ rw b (high_go l.v s l.at c.min-end.result c.loop-at-test.true (omega (arith, c.min-end.ensures, unhex-length x.line.now))),
     )

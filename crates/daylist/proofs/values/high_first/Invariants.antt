@@ -9,6 +9,3 @@ use Rattle.daylist.proofs.values.high_first.Given as goal
 abbrev pub invariant-loop-at : goal.invariant-loop-at
 invariant-loop-at l = ((l.from ≤ l.at) × (l.v < 256 ^ (l.at - l.from)))
     × (high_first (take l.count (drop l.from (unhex l.line))) ≡ high_first_from l.v (take (l.end - l.at) (drop l.at (unhex l.line))))
-
-abbrev pub decreases-loop-at : goal.decreases-loop-at
-decreases-loop-at l = l.end - l.at

@@ -6,9 +6,6 @@ use mathlib.Core.Path.{◌≡◌}
 use Prim.Native.Nat.{◌-◌}
 use Rattle.frames.proofs.lines.line_starts.Given as goal
 
-abbrev pub invariant-loop-at : goal.invariant-loop-at
-invariant-loop-at l = (length l.table ≡ length l.initial.table)
-    × (put_at l.initial.table 0 (take (length l.initial.table) (starts l.list)) ≡ put_at l.table l.done (take (length l.initial.table - l.done) (starts_from l.at (lines (drop l.at l.list)))))
-
-abbrev pub decreases-loop-at : goal.decreases-loop-at
-decreases-loop-at l = length l.list - l.at
+abbrev pub invariant-loop-start : goal.invariant-loop-start
+invariant-loop-start l = (length l.start-items ≡ length l.initial.start-items)
+    × (put_at l.initial.start-items 0 (take (length l.initial.start-items) (starts l.list)) ≡ put_at l.start-items l.start-index (take (length l.initial.start-items - l.start-index) (starts_from l.at (lines (drop l.at l.list)))))

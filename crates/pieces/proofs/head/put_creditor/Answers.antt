@@ -2,4 +2,6 @@ use Rattle.put.proofs.Writes.{wrote_then}
 use Rattle.pieces.proofs.head.put_creditor.Goals as goal
 
 pub returns-clause-wrote : goal.returns-clause-wrote
-returns-clause-wrote c = wrote_then _ _ c.put_text-name.ensures.wrote (wrote_then _ _ c.put_behind-account.ensures.wrote (wrote_then _ _ c.put-agent.ensures (wrote_then _ _ c.put_bank-bank.ensures.wrote (wrote_then _ _ c.put_behind-identifier.ensures.wrote c.put.ensures))))
+returns-clause-wrote c =
+    wrote_then _ _ c.put_text.ensures.wrote (wrote_then _ _ c.put.ensures (wrote_then _ _ c.put_text-2.ensures.wrote (wrote_then _ _ c.put-2.ensures
+    (wrote_then _ _ c.put_bank.ensures.wrote (wrote_then _ _ c.put-3.ensures (wrote_then _ _ c.put_text-3.ensures.wrote c.put-4.ensures))))))

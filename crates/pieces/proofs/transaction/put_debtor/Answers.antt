@@ -2,4 +2,6 @@ use Rattle.put.proofs.Writes.{wrote_then}
 use Rattle.pieces.proofs.transaction.put_debtor.Goals as goal
 
 pub returns-clause-wrote : goal.returns-clause-wrote
-returns-clause-wrote c = wrote_then _ _ c.put_bank-bank.ensures.wrote (wrote_then _ _ c.put_behind-name.ensures.wrote (wrote_then _ _ c.put_behind-account.ensures.wrote (wrote_then _ _ c.put-closed.ensures (wrote_then _ _ c.put_remittance-remittance.ensures.wrote c.put.ensures))))
+returns-clause-wrote c =
+    wrote_then _ _ c.put_bank.ensures.wrote (wrote_then _ _ c.put.ensures (wrote_then _ _ c.put_text.ensures.wrote (wrote_then _ _ c.put-2.ensures
+    (wrote_then _ _ c.put_text-2.ensures.wrote (wrote_then _ _ c.put-3.ensures (wrote_then _ _ c.put_remittance.ensures.wrote c.put-4.ensures))))))

@@ -4,4 +4,4 @@ use Rattle.pieces.proofs.transaction.put_transaction.Goals as goal
 
 pub returns-clause-wrote : goal.returns-clause-wrote
 unfolding transaction_bytes
-returns-clause-wrote c = wrote_then _ _ c.put_payment-payment.ensures.wrote c.put_debtor.ensures.wrote
+returns-clause-wrote c = wrote_then _ _ c.put_payment.ensures.wrote c.put_debtor.ensures.wrote

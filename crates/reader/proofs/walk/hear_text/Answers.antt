@@ -5,4 +5,4 @@ use Rattle.reader.proofs.walk.hear_text.Goals as goal
 pub text-requires : goal.text-requires
 text-requires c =
     let w = run_in in_text c.args.s.now c.args.start _ c.requires.0 c.text_end-end.ensures in
-    (c.requires.1.1.0, (w.0, (w.1, c.requires.1.1.1)))
+    (w.0, (w.1, c.requires.1.1))

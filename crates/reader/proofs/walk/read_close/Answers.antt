@@ -1,12 +1,14 @@
+use Prim.Native.Nat.{max}
+use borrow.Author.Rules.{rules}
 use Rattle.plan.proofs.Held.{known_in}
-use Rattle.reader.proofs.Closes.{close-stuck, close-ended}
+use Rattle.reader.proofs.Maps.{mapped, close-maps}
 use Rattle.reader.proofs.walk.read_close.Goals as goal
 
 pub closes-requires : goal.closes-requires
 closes-requires c = (c.requires.1, known_in _ _ c.requires.0)
 
-pub returns-in-Part : goal.returns-in-Part
-returns-in-Part c = close-stuck _ _ _ _ _ _ c.closes.ensures _ c.in-Part.is _ c.later.ensures
-
-pub returns-in-Whole : goal.returns-in-Whole
-returns-in-Whole c = close-ended _ _ _ c.args.far _ _ c.closes.ensures _ c.in-Whole.is
+pub returns : goal.returns
+returns c =
+    let a = c.args in
+    close-maps a.t.now a.s.now a.e a.far a.at c.closes.result c.map_err.result c.closes.ensures
+    (mapped c.closes.result c.map_err.result _ (max a.far) (λ p m h. search rules) c.map_err.ensures.cases)

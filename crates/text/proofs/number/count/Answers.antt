@@ -1,21 +1,26 @@
 use mathlib.Core.Bool.{true, and-false}
 use mathlib.Core.Path.{◌≡◌, sym, ◌∙◌}
-use Rattle.laws.specs.Bytes.{all}
+use lib.ListN.{length}
+use Rattle.std.proofs.Common.{rules}
+use Rattle.laws.specs.Bytes.{between}
 use Rattle.laws.proofs.Loops.{span-whole, span-part}
 use Rattle.marks.specs.Marks.{digit}
-use Rattle.text.proofs.Musts.{between_in}
+use Rattle.marks.proofs.Classes.{between_high}
 use Rattle.text.proofs.number.count.Goals as goal
-use Rattle.text.proofs.number.count.Goals.{Else-digits-text}
+use Rattle.text.proofs.number.count.Goals.{Then-contains, else-contains-via-then-contains+else-digits-text, else-contains-via-else-contains}
 
--- the bytes are all digits
-whole : (c : Else-digits-text) → all digit c.args.text.now ≡ true
-whole c = span-whole digit c.args.text.now (sym c.digits.ensures ∙ c.if-digits-text.false)
-
-pub returns-then-digits-text : goal.returns-then-digits-text
-returns-then-digits-text c = rw (span-part digit c.args.text.now (λ e. c.if-digits-text.true (c.digits.ensures ∙ e)), and-false)
+few : (c : Then-contains) → between 1 15 (length c.args.text.now) ≡ true
+few c = search rules
 
 pub number-requires : goal.number-requires
-number-requires c = (c.if-text-gt15.false, whole (goal.at.number-requires c).Else-digits-text)
+number-requires c = (between_high 1 15 _ (few (goal.at.number-requires c).Then-contains), span-whole digit c.args.text.now (sym c.digits.ensures ∙ c.if-digits-text.true))
 
-pub returns : goal.returns
-returns c = rw (between_in 1 15 _ c.if-text-lt1.false c.if-text-gt15.false, whole (goal.at.returns c).Else-digits-text, c.number.ensures)
+pub returns-then-digits-text : goal.returns-then-digits-text
+returns-then-digits-text c =
+    rw (few (goal.at.returns-then-digits-text c).Then-contains, span-whole digit c.args.text.now (sym c.digits.ensures ∙ c.if-digits-text.true), c.number.ensures)
+
+pub returns-else-contains : goal.returns-else-contains
+returns-else-contains c = elim c.else-contains.branch [
+  | else-contains-via-then-contains+else-digits-text w ↦ rw (span-part digit c.args.text.now (λ e. w.if-digits-text.false (w.digits.ensures ∙ e)), and-false)
+  | else-contains-via-else-contains w ↦ search rules
+]

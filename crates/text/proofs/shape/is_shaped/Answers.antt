@@ -1,10 +1,17 @@
-use mathlib.Core.Path.{sym, ◌∙◌}
-use native.Mathlib.Omega.{arith}
-use Rattle.marks.specs.Classes.{of}
-use Rattle.text.proofs.Shapes.{shaped-run}
+use mathlib.Core.Bool.{true}
+use mathlib.Core.Path.{◌≡◌, sym}
+use Rattle.std.proofs.Common.{rules}
+use lib.ListN.{length}
+use Rattle.laws.specs.Bytes.{between}
+use Rattle.marks.proofs.Classes.{class_span}
 use Rattle.text.proofs.shape.is_shaped.Goals as goal
+use Rattle.text.proofs.shape.is_shaped.Goals.{then-has_shape, else-has_shape}
 
-pub returns : goal.returns
-returns c =
-    let a = c.args in
-    shaped-run a.pattern.now a.longest (of a.class) a.text.now (omega arith) (omega arith) (sym c.has_shape.ensures ∙ c.if-not-has_shape.false) c.run.result c.run.ensures
+pub returns-then-contains : goal.returns-then-contains
+returns-then-contains g c p h = elim c.if-has_shape.branch [
+  | then-has_shape w ↦
+      let k = c.in-Some.ensures.cases in
+      let b : between 1 c.args.longest (length c.in-Some.rest.now) ≡ true = search rules in
+      rw (← k.2, ← k.1, sym w.if-has_shape.ensures, b, c.run.ensures p h) (sym (class_span p c.in-Some.rest.now))
+  | else-has_shape w ↦ cc
+]

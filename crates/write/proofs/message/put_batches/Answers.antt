@@ -5,13 +5,15 @@ use Rattle.collections.specs.Listed.{listed}
 use native.Mathlib.Omega.{arith}
 use Rattle.write.proofs.message.put_batches.Goals as goal
 
-pub loop-k-preserved : goal.loop-k-preserved
-loop-k-preserved c =
-    let l = c.loop-k in (
-      omega (arith, c.loop-k-test.true),
-      omega (arith, l.invariant.1, c.put_batch-to.ensures.upper_bound),
-      going_on l.invariant.2 _ _ (batches-go (creditor_at c.args.list.now) c.args.labels.now (listed c.args.list.now) l.k c.args.batches c.loop-k-test.true) c.put_batch-to.ensures.wrote,
+pub loop-batch-preserved : goal.loop-batch-preserved
+loop-batch-preserved c =
+    let b = c.args.batches.now in
+    let l = c.loop-batch in (
+      omega (arith, l.invariant.0, c.put_batch.ensures.upper_bound),
+      going_on l.invariant.1 _ _ (batches-go (creditor_at b.list.now) b.labels.now (listed b.list.now) l.batch b.count c.loop-batch-test.true) c.put_batch.ensures.wrote,
     )
 
 pub returns-clause-wrote : goal.returns-clause-wrote
-returns-clause-wrote c = going_end c.loop-k.invariant.2 (batches-end (creditor_at c.args.list.now) c.args.labels.now (listed c.args.list.now) c.loop-k.k c.args.batches c.loop-k-test.false)
+returns-clause-wrote c =
+    let b = c.args.batches.now in
+    going_end c.loop-batch.invariant.1 (batches-end (creditor_at b.list.now) b.labels.now (listed b.list.now) c.loop-batch.batch b.count c.loop-batch-test.false)

@@ -1,7 +1,0 @@
-use mathlib.Core.Path.{ap, ◌∙◌}
-use Rattle.heard.specs.Row.{row_of}
-use Rattle.heard.proofs.Rows.{transaction-counted}
-use Rattle.heard.proofs.row.count_transaction.Goals as goal
-
-pub returns : goal.returns
-returns c = ap row_of c.count.ensures ∙ transaction-counted c.args.heard.now c.requires _
