@@ -2,16 +2,20 @@
 --   begins_batch, begins_transaction, begins_address, begins_other   an element begins
 --   text-step                      what is heard of a text is the step
 --   put_none, put_lent             no room for a slip or a row; the stretch that was lent comes back
+--   slip_texts, slip_put           the texts of a slip; two numbers, and its texts after them
 use Prim.Native.Nat.{ℕ, ◌+◌, ◌-◌, ◌≤◌, ◌<◌}
 use native.Mathlib.Omega.{arith}
 use mathlib.Core.Bool.{Bool}
-use mathlib.Core.List.{List, [], ◌++◌}
+use mathlib.Core.List.{List, [], ◌∷◌, ◌++◌}
 use mathlib.Core.Option.{none}
 use mathlib.Core.Path.{◌≡◌, refl, ap, sym, ◌∙◌}
 use borrow.Author.Tests.{ne_eqb, le-leb, lt-leb}
 use lib.Dec.{eqb, ltb}
-use lib.ListN.{length, take, drop}
-use Rattle.laws.proofs.Puts.{put_back}
+use borrow.Rule.Slice.PartMut.{put_mid}
+use lib.ListN.{length, set, take, drop, length-set}
+use Rattle.laws.specs.Lists.{gather}
+use Rattle.laws.specs.Put.{put_at}
+use Rattle.laws.proofs.Puts.{put_two, put-append, put_back, put_all}
 use Rattle.laws.proofs.Tests.{eqb-cases}
 use Rattle.profile.specs.Totals.{begun}
 use Rattle.profile.specs.declared.Tally.{Tally}
@@ -23,7 +27,7 @@ use Rattle.message.specs.Verdict.{or_else, broken}
 use Rattle.heard.specs.declared.Heard.{Heard}
 use Rattle.heard.specs.declared.Limit.{Limit}
 use Rattle.heard.specs.declared.Word.{Word}
-use Rattle.heard.specs.State.{if_true, nothing, opens, fewer, judged_mixes, begun_mixes, put_if_room, State, settled_tally, settled_slips, shut, saying, step}
+use Rattle.heard.specs.State.{if_true, nothing, opens, fewer, judged_mixes, begun_mixes, put_if_room, State, settled_tally, settled_slips, shut, saying, step, slip_parts}
 use Rattle.heard.specs.Row.{Row, row_of, state_of, state_with, with_said, without_from, with_bad, with_batch_counted, with_transaction_counted, with_mixes, with_address}
 use Rattle.heard.proofs.Fold.{or_none}
 use Rattle.events.specs.Events.{told_row, held_at, Plain}
@@ -37,6 +41,20 @@ bad-none w = λ i. record { said = w.said; bad = sym (or_none w.bad) i; batches 
 -- the row with the open address judged
 abbrev judged_row : Row → Row
 judged_row w = with_mixes w (judged_mixes w.said w.mixes)
+
+-- where the texts of a slip start, and how long they are
+abbrev pub slip_texts : (ℕ → Word) → List ℕ
+slip_texts said = gather (λ p. (said p).start ∷ (said p).length ∷ []) slip_parts
+
+-- a slip: two numbers, and the texts after them
+pub slip_put : (l ys : List ℕ) (k w : ℕ) → length l ≡ 12 → length ys ≡ 10
+    → put_mid 2 (length (set (set l 0 k) 1 w) - 2) (set (set l 0 k) 1 w) ys ≡ k ∷ w ∷ ys
+slip_put l ys k w h n =
+    let e : length (set (set l 0 k) 1 w) ≡ 12 = simp length-set h in
+    put_back (set (set l 0 k) 1 w) ys 2 (length (set (set l 0 k) 1 w)) (omega (arith, e)) (omega (arith, e, n))
+    ∙ ap (λ (o : List ℕ). put_at o 2 ys) (put_two l 0 k w (omega arith))
+    ∙ sym (put-append l 0 (k ∷ w ∷ []) ys (omega arith))
+    ∙ put_all l (k ∷ w ∷ ys) (h ∙ omega (arith, n))
 
 -- ─── an element begins ───
 

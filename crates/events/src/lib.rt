@@ -15,12 +15,13 @@ ghost use Rattle.heard.specs.Bounds.{Within};
 ghost use Rattle.events.specs.Events.{ended_rows, ended_row, told_row, held_at, Plain, Finished};
 
 use heard::{Heard, Part};
-use profile::{Batch, ControlSum, Profile, Tally, Totals};
+use profile::{Batch, ControlSum, Profile, Slip, Tally, Totals};
 use text::Rule;
 
 // ─── a transaction that ends ───
 
-// Fills the slip of the open transaction, which is of the batch k: the whole of the stretch that it is lent.
+// Fills the slip of the open transaction, which is of the batch k: the whole of the stretch that it is lent. Here and in `fill_row` the numbers are put by the names of
+// their columns, by which `report` and other programs read them: so the names are held to the places.
 fn fill_slip(slip: &mut [u64], heard: &Heard, k: u64)
     requires { length slip.old ≡ 12 }
     ensures { slip.new ≡ slip_numbers k (row_of heard.now).said }
@@ -30,9 +31,9 @@ fn fill_slip(slip: &mut [u64], heard: &Heard, k: u64)
     let name = heard.last_said(Part::DEBTOR_NAME);
     let account = heard.last_said(Part::DEBTOR_ACCOUNT);
     let remittance = heard.last_said(Part::REMITTANCE);
-    slip.copy_from_slice(&[
-        k, // from 1
-        heard.last_said(Part::AMOUNT).worth,
+    slip[Slip::BATCH] = k;
+    slip[Slip::CENTS] = heard.last_said(Part::AMOUNT).worth;
+    slip[Slip::TEXTS..].copy_from_slice(&[
         end_to_end.start as u64,
         end_to_end.length as u64,
         mandate.start as u64,
@@ -102,16 +103,16 @@ fn fill_row(row: &mut [u64], heard: &Heard, tally: Tally)
 {
     let scheme = heard.last_said(Part::SCHEME).worth;
     let sequence = heard.last_said(Part::SEQUENCE).worth;
-    row.copy_from_slice(&[
-        tally.transactions.0,
-        tally.count.0,
-        tally.sum.0,
-        heard.last_said(Part::BATCH_COUNT).mark,
-        heard.last_said(Part::BATCH_COUNT).worth,
-        heard.last_said(Part::BATCH_SUM).mark,
-        heard.last_said(Part::BATCH_SUM).worth,
-        4 * scheme + sequence,
-    ]);
+    let count = heard.last_said(Part::BATCH_COUNT);
+    let sum = heard.last_said(Part::BATCH_SUM);
+    row[Batch::BEFORE] = tally.transactions.0;
+    row[Batch::COUNT] = tally.count.0;
+    row[Batch::CENTS] = tally.sum.0;
+    row[Batch::HAS_COUNT] = count.mark;
+    row[Batch::DECLARED_COUNT] = count.worth;
+    row[Batch::HAS_SUM] = sum.mark;
+    row[Batch::DECLARED_SUM] = sum.worth;
+    row[Batch::TERMS] = 4 * scheme + sequence;
 }
 
 // The open batch, where one is open, ends: its row is put where there is room, its fault noted, and the first bad mix of its addresses.

@@ -117,7 +117,7 @@ pub struct AddressMixes {
 }
 
 // What was heard so far.
-#[derive(Drop)]
+#[derive(Clone, Copy)]
 pub struct Heard {
     // What each part said.
     pub said: [Word; Part::END],

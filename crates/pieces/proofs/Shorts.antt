@@ -2,6 +2,7 @@
 --   byte_small                a byte that two digits stand for is at most 255
 --   text-short                a text is at most 255 bytes long
 --   text-within, text-is      the part of a text is within the line, and its digits stand for the text
+--   text-digits               they are those of its part
 --   text-size                 there are two digits for each byte of it
 use Prim.Native.Nat.{ℕ, zero, suc, ◌+◌, ◌-◌, ◌*◌, ◌<◌, ◌≤◌}
 use native.Mathlib.Omega.{arith}
@@ -53,6 +54,11 @@ module _ (n i : ℕ) (line : Bytes) (p : TextPart) (f : Frame) (e : f ≡ frame_
   module _ (h : framed (frame_of n) (unhex line) ≡ true) (l : i < (frame_of n).texts) where
     pub text-within : p.start + p.length ≤ length line
     text-within = rw told (part-within (frame_of n) line h i l)
+
+    pub text-digits : take (p.start + p.length - p.start) (drop p.start line) ≡ take (part_of (frame_of n) i (unhex line)).length (drop (part_of (frame_of n) i (unhex line)).start line)
+    text-digits =
+        let a : p.start + p.length - p.start ≡ p.length = omega arith in
+        rw (a, told)
 
     pub text-is : unhex (take (p.start + p.length - p.start) (drop p.start line)) ≡ line_text n i (unhex line)
     text-is =

@@ -1,7 +1,8 @@
 // A line that holds its frame, and its texts. Line 1 is the creditor's, every further line a collection; the texts count from 0.
-ghost use Rattle.std.specs.Prelude.{◌≡◌, true, ◌+◌, ◌*◌, ◌≤◌, ◌<◌, ◌^◌, length};
+ghost use Rattle.std.specs.Prelude.{◌≡◌, true, ◌+◌, ◌*◌, ◌≤◌, ◌<◌, ◌^◌, length, take, drop};
 ghost use Rattle.frames.specs.Hex.{unhex};
 ghost use Rattle.frames.specs.Frames.{frame_of, framed};
+ghost use Rattle.frames.specs.Parts.{part_of};
 ghost use Rattle.put.specs.Wrote.{Wrote};
 ghost use Rattle.written.specs.Pieces.{bank_bytes};
 ghost use Rattle.pieces.specs.Texts.{line_text};
@@ -25,6 +26,8 @@ impl<'a, const NUMBER: usize> Line<'a, NUMBER> {
     // The digits of a text.
     pub fn text(&self, i: usize) -> &'a [u8]
         requires { i < (frame_of NUMBER).texts }
+        ensures digits { let part = part_of (frame_of NUMBER) i (unhex self.now.digits.now) in
+            result.now ≡ take part.length (drop part.start self.now.digits.now) }
         ensures value { unhex result.now ≡ line_text NUMBER i (unhex self.now.digits.now) }
         ensures length_value { length result.now ≡ length (unhex result.now) * 2 }
         ensures length_bound { length (unhex result.now) ≤ 255 }

@@ -1,4 +1,4 @@
--- THE FLAW THAT A NUMBER NAMES, as the code reads it back. Not to be believed: that each flaw comes back from its own number is proofs/Faults.
+-- THE FLAW THAT A NUMBER NAMES, as `Flaw::from` says it. Not to be believed: that each flaw comes back from its own number is proofs/Faults.
 --   flaw_of n   the flaw whose number is n; the check digits for every other number
 use Rattle.std.specs.Prelude.{ℕ, Bool, true, false, List, [], ◌∷◌, eqb}
 use Rattle.profile.specs.declared.Flaw.{Flaw}

@@ -79,6 +79,20 @@ impl Batch {
     pub const TERMS: usize = 7;
 }
 
+// Where the numbers of a transaction stand in its slip.
+#[derive(Clone, Copy)]
+pub struct Slip(pub usize);
+
+impl Slip {
+    // Its batch, from 1.
+    pub const BATCH: usize = 0;
+
+    pub const CENTS: usize = 1;
+
+    // From here on start and length of each text.
+    pub const TEXTS: usize = 2;
+}
+
 // What an accepted message answers: its batches, transactions and cents.
 #[derive(Clone, Copy, Debug, PartialEq, Eq)]
 pub struct Totals {
